@@ -1,0 +1,19 @@
+-- Numbers in bytes, the highest byte first ("stored numbers big-endian", document 01), at any width.
+use Prim.Native.Nat.{ℕ, zero, suc, _+_, _*_, _/_, _%_}
+use mathlib.Core.List.{List, [], _∷_, _++_}
+use lib.ListN.{getD, set}
+
+-- the number in the k bytes of s from at on
+unfoldable pub beAt : ℕ → List ℕ → ℕ → ℕ
+beAt zero s at = 0
+beAt (suc k) s at = beAt k s at * 256 + getD s (at + k) 0
+
+-- the k low bytes of x
+unfoldable pub beBytes : ℕ → ℕ → List ℕ
+beBytes zero x = []
+beBytes (suc k) x = beBytes k (x / 256) ++ (x % 256 ∷ [])
+
+-- s with the k low bytes of x from at on
+unfoldable pub putBe : ℕ → List ℕ → ℕ → ℕ → List ℕ
+putBe zero s at x = s
+putBe (suc k) s at x = putBe k (set s (at + k) (x % 256)) at (x / 256)

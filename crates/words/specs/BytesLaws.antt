@@ -1,0 +1,89 @@
+-- Laws of numbers in bytes, each for every width.
+use Prim.Native.Nat.{ℕ, zero, suc, _+_, _-_, _*_, _/_, _%_, _^_, _≤_, _<_}
+use mathlib.Core.Path.{_≡_, refl, sym, ap, ap₂, _∙_, subst}
+use mathlib.Core.Logic.{_⊎_, inl, inr}
+use mathlib.Core.List.{List, [], _∷_, _++_, append-assoc}
+use native.Mathlib.Nat.{add-suc, add-zero, pow-suc, mod-one, one-le-pow, pow-le-pow-right, lt-of-lt-of-le, le-trans, le-suc, zero-lt-suc, not-suc-le-zero}
+use native.Mathlib.Numerals.{add-one}
+use native.Mathlib.Omega.{arith}
+use lib.Arith.{digits-lt, mod-mul}
+use lib.ListN.{length, getD, set, take, drop, length-set, length-append, take-append-drop}
+use lib.Seq.{set-split, take-set-le, drop-set-lt, getD-set-same, getD-set-other, drop-cons, append-snoc}
+use Rattle.words.specs.Bytes.{beAt, beBytes, putBe}
+
+-- every element is a byte
+abbrev pub AreBytes : List ℕ → Type 0
+AreBytes s = (i : ℕ) → getD s i 0 < 256
+
+pub beAt-lt : (k : ℕ) (s : List ℕ) (at : ℕ) → AreBytes s → beAt k s at < 256 ^ k
+unfolding beAt
+beAt-lt zero s at h = zero-lt-suc 0
+beAt-lt (suc k) s at h = rw pow-suc (digits-lt (beAt-lt k s at h) (h (at + k)))
+
+-- one more byte
+pub byte-more : (i : ℕ) {x b : ℕ} → x < 256 ^ i → b < 256 → x * 256 + b < 256 ^ (i + 1)
+byte-more i h l = rw (add-one, pow-suc) (digits-lt h l)
+
+-- eight bytes fit 64 bits
+pub eight-fit : (i : ℕ) {x : ℕ} → i ≤ 8 → x < 256 ^ i → x < 2 ^ 64
+eight-fit i h l = lt-of-lt-of-le l (pow-le-pow-right (zero-lt-suc 255) h)
+
+-- the number depends on its k bytes alone
+pub beAt-agree : (k : ℕ) (s t : List ℕ) (at by : ℕ) → ((i : ℕ) → i < k → getD s (at + i) 0 ≡ getD t (by + i) 0) → beAt k s at ≡ beAt k t by
+unfolding beAt
+beAt-agree zero s t at by h = refl
+beAt-agree (suc k) s t at by h = ap₂ (λ (x y : ℕ). x * 256 + y) (beAt-agree k s t at by (λ i l. h i (le-trans l (le-suc k)))) (h k (omega arith))
+
+pub length-beBytes : (k x : ℕ) → length (beBytes k x) ≡ k
+unfolding beBytes
+length-beBytes zero x = refl
+length-beBytes (suc k) x = length-append (beBytes k (x / 256)) (x % 256 ∷ []) ∙ rw (length-beBytes k (x / 256)) (add-one k)
+
+pub length-putBe : (k : ℕ) (s : List ℕ) (at x : ℕ) → length (putBe k s at x) ≡ length s
+unfolding putBe
+length-putBe zero s at x = refl
+length-putBe (suc k) s at x = length-putBe k (set s (at + k) (x % 256)) at (x / 256) ∙ length-set s (at + k) (x % 256)
+
+-- the last byte is stored first
+pub putBe-last : (k : ℕ) (s : List ℕ) (at x : ℕ) → 0 < k → putBe k s at x ≡ putBe (k - 1) (set s (at + (k - 1)) (x % 256)) at (x / 256)
+unfolding putBe
+putBe-last zero s at x h = absurd (not-suc-le-zero h)
+putBe-last (suc k) s at x h = let e : suc k - 1 ≡ k = omega arith in rw e
+
+pub putBe-none : (k : ℕ) (s : List ℕ) (at x : ℕ) → k ≤ 0 → putBe k s at x ≡ s
+unfolding putBe
+putBe-none k s at x h = let e : k ≡ 0 = omega arith in rw e
+
+-- a store replaces k bytes and keeps the rest
+pub putBe-is : (k : ℕ) (s : List ℕ) (at x : ℕ) → at + k ≤ length s → putBe k s at x ≡ take at s ++ (beBytes k x ++ drop (at + k) s)
+unfolding putBe beBytes
+putBe-is zero s at x h = rw add-zero (sym (take-append-drop at s))
+putBe-is (suc k) s at x h =
+    let l : at + k < length s = omega arith in
+    putBe-is k (set s (at + k) (x % 256)) at (x / 256) (rw length-set (omega arith))
+    ∙ ap₂ (λ (p q : List ℕ). p ++ (beBytes k (x / 256) ++ q)) (take-set-le at s (at + k) (x % 256) (omega arith)) (after s (at + k) (x % 256) l)
+    ∙ rw (add-suc, append-assoc (beBytes k (x / 256)) (x % 256 ∷ []) (drop (suc (at + k)) s))
+  where
+    after : (s : List ℕ) (j v : ℕ) → j < length s → drop j (set s j v) ≡ v ∷ drop (suc j) s
+    after s j v l =
+        drop-cons (set s j v) j 0 (rw length-set l)
+        ∙ ap₂ (λ (y : ℕ) (q : List ℕ). y ∷ q) (getD-set-same s j v 0 l) (drop-set-lt (suc j) s j v (omega arith))
+
+-- a store elsewhere leaves an element
+pub getD-putBe : (k : ℕ) (s : List ℕ) (at x i : ℕ) → (i < at) ⊎ (at + k ≤ i) → getD (putBe k s at x) i 0 ≡ getD s i 0
+unfolding putBe
+getD-putBe zero s at x i apart = refl
+getD-putBe (suc k) s at x i (inl l) =
+    getD-putBe k (set s (at + k) (x % 256)) at (x / 256) i (inl l) ∙ getD-set-other s (at + k) i (x % 256) 0 (λ e. omega arith)
+getD-putBe (suc k) s at x i (inr l) =
+    getD-putBe k (set s (at + k) (x % 256)) at (x / 256) i (inr (omega arith)) ∙ getD-set-other s (at + k) i (x % 256) 0 (λ e. omega arith)
+
+-- what was stored is read back, without what k bytes do not hold
+pub beAt-putBe : (k : ℕ) (s : List ℕ) (at x : ℕ) → at + k ≤ length s → beAt k (putBe k s at x) at ≡ x % 256 ^ k
+unfolding beAt putBe
+beAt-putBe zero s at x h = sym (mod-one x)
+beAt-putBe (suc k) s at x h =
+    ap₂ (λ (q r : ℕ). q * 256 + r)
+    (beAt-putBe k (set s (at + k) (x % 256)) at (x / 256) (rw length-set (omega arith)))
+    (getD-putBe k (set s (at + k) (x % 256)) at (x / 256) (at + k) (inr (omega arith)) ∙ getD-set-same s (at + k) (x % 256) 0 (omega arith))
+    ∙ rw pow-suc (sym (mod-mul x (one-le-pow k 256 (zero-lt-suc 255)) (zero-lt-suc 255)))

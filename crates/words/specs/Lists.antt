@@ -1,0 +1,17 @@
+-- Tests on lists of bytes.
+use Prim.Native.Nat.{ℕ}
+use mathlib.Core.Bool.{Bool, true, false, _&&_}
+use mathlib.Core.List.{List, [], _∷_}
+use lib.Dec.{eqb}
+
+-- a and b have the same length and the same bytes
+unfoldable pub sameBytes : List ℕ → List ℕ → Bool
+sameBytes [] [] = true
+sameBytes [] (y ∷ b) = false
+sameBytes (x ∷ a) [] = false
+sameBytes (x ∷ a) (y ∷ b) = eqb x y && sameBytes a b
+
+-- every byte of s is zero
+unfoldable pub allZero : List ℕ → Bool
+allZero [] = true
+allZero (x ∷ s) = eqb x 0 && allZero s

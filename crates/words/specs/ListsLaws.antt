@@ -1,0 +1,71 @@
+-- Laws of the tests on lists, in the form in which a loop over the elements needs them.
+use Prim.Native.Nat.{ℕ, zero, suc, _+_, _<_, _≤_}
+use mathlib.Core.Path.{_≡_, refl, sym, ap, ap₂, _∙_}
+use mathlib.Core.Bool.{Bool, true, false, _&&_}
+use mathlib.Core.List.{List, [], _∷_}
+use native.Mathlib.Numerals.{add-one}
+use native.Mathlib.Omega.{arith}
+use borrow.Author.Tests.{eqb-true, eq-eqb}
+use lib.Dec.{eqb}
+use lib.ListN.{length, getD, drop, drop-of-length-le}
+use lib.Seq.{drop-cons}
+use Rattle.words.specs.Lists.{sameBytes, allZero}
+use Rattle.words.specs.Tables.{and-left, and-right}
+
+pub and-true : (b : Bool) → b && true ≡ b
+and-true true = refl
+and-true false = refl
+
+pub and-assoc : (a b c : Bool) → (a && b) && c ≡ a && (b && c)
+and-assoc true b c = refl
+and-assoc false b c = refl
+
+-- the test says that the lists are equal
+pub same-equal : (a b : List ℕ) → sameBytes a b ≡ true → a ≡ b
+unfolding sameBytes
+same-equal [] [] t = refl
+same-equal [] (y ∷ b) t = cc
+same-equal (x ∷ a) [] t = cc
+same-equal (x ∷ a) (y ∷ b) t =
+    ap₂ (λ (u : ℕ) (l : List ℕ). u ∷ l)
+    (eqb-true x y (and-left (eqb x y) (sameBytes a b) t))
+    (same-equal a b (and-right (eqb x y) (sameBytes a b) t))
+
+pub same-refl : (a : List ℕ) → sameBytes a a ≡ true
+unfolding sameBytes
+same-refl [] = refl
+same-refl (x ∷ a) = rw (eq-eqb x x refl) (same-refl a)
+
+pub same-lengths : (a b : List ℕ) → (length a ≡ length b → ⊥) → sameBytes a b ≡ false
+unfolding sameBytes
+same-lengths [] [] n = absurd (n refl)
+same-lengths [] (y ∷ b) n = refl
+same-lengths (x ∷ a) [] n = refl
+same-lengths (x ∷ a) (y ∷ b) n = rw (same-lengths a b (λ e. n (ap suc e))) (and-false (eqb x y))
+  where
+    and-false : (b : Bool) → b && false ≡ false
+    and-false true = refl
+    and-false false = refl
+
+-- one more pair of elements is compared
+pub same-more : (a b : List ℕ) (i : ℕ) (alike : Bool) → length a ≡ length b → i < length a
+    → alike && sameBytes (drop i a) (drop i b) ≡ (alike && eqb (getD a i 0) (getD b i 0)) && sameBytes (drop (i + 1) a) (drop (i + 1) b)
+unfolding sameBytes
+same-more a b i alike e l =
+    let m : i < length b = omega arith in
+    rw (add-one, and-assoc, drop-cons a i 0, drop-cons b i 0)
+
+pub same-end : (a b : List ℕ) (i : ℕ) (alike : Bool) → length a ≡ length b → length a ≤ i → alike && sameBytes (drop i a) (drop i b) ≡ alike
+unfolding sameBytes
+same-end a b i alike e l =
+    let m : length b ≤ i = omega arith in
+    rw (drop-of-length-le a l, drop-of-length-le b m) (and-true alike)
+
+-- one more element is held to zero
+pub zero-more : (s : List ℕ) (i : ℕ) (clear : Bool) → i < length s → clear && allZero (drop i s) ≡ (clear && eqb (getD s i 0) 0) && allZero (drop (i + 1) s)
+unfolding allZero
+zero-more s i clear l = rw (add-one, and-assoc, drop-cons s i 0)
+
+pub zero-end : (s : List ℕ) (i : ℕ) (clear : Bool) → length s ≤ i → clear && allZero (drop i s) ≡ clear
+unfolding allZero
+zero-end s i clear l = rw (drop-of-length-le s l) (and-true clear)

@@ -1,0 +1,81 @@
+-- Laws of 32-bit words: rotation, and what lib.Bits lacks of exclusive or.
+use Prim.Native.Nat.{ℕ, zero, suc, _+_, _*_, _-_, _/_, _%_, _^_, _≤_, _<_}
+use mathlib.Core.Path.{_≡_, refl, sym, ap, ap₂, _∙_, subst}
+use mathlib.Core.Logic.{_⊎_, inl, inr, ⊎-elim}
+use native.Mathlib.Nat.{mod-lt, mul-div-cancel, mul-mod-left, add-zero, zero-lt-suc, sub-add-cancel}
+use native.Mathlib.Omega.{arith}
+use lib.Arith.{digits-lt, digits-mod, mod-mul, bin-ind}
+use lib.Bits.{bitOr, bitXor, differ, or-shifted, xor-step, xor-shr, xor-lt, xor-self, xor-zero-r}
+use lib.Pow.{pow-pos, pow-add, shr-lt}
+use Rattle.words.specs.Words.{_⋘_}
+
+-- the bits that a shift to the left keeps
+shl-keeps : (x n : ℕ) → n ≤ 32 → x * 2 ^ n % 2 ^ 32 ≡ x % 2 ^ (32 - n) * 2 ^ n
+shl-keeps x n h =
+    let e : 2 ^ 32 ≡ 2 ^ (32 - n) * 2 ^ n = ap (λ (m : ℕ). 2 ^ m) (sym (sub-add-cancel h)) ∙ pow-add 2 (32 - n) n in
+    rw (e, mod-mul (x * 2 ^ n) (pow-pos (32 - n)) (pow-pos n), mul-div-cancel x (pow-pos n), mul-mod-left x (2 ^ n), add-zero)
+
+module _ (x n : ℕ) (word : x < 2 ^ 32) (within : n ≤ 32) where
+  shr-below : x / 2 ^ (32 - n) < 2 ^ n
+  shr-below = let e : 32 ≡ n + (32 - n) = omega arith in shr-lt n (32 - n) (subst (λ (m : ℕ). x < 2 ^ m) e word)
+
+  -- two shifts joined by `or` are the rotation
+  pub or-rotates : bitOr (x * 2 ^ n % 2 ^ 32) (x / 2 ^ (32 - n)) ≡ x ⋘ n
+  unfolding _⋘_
+  or-rotates = rw (shl-keeps x n within) (or-shifted (x % 2 ^ (32 - n)) n (x / 2 ^ (32 - n)) shr-below)
+
+  pub rotated-lt : x ⋘ n < 2 ^ 32
+  unfolding _⋘_
+  rotated-lt =
+      rw (shl-keeps x n within)
+      (subst (λ (m : ℕ). x % 2 ^ (32 - n) * 2 ^ n + x / 2 ^ (32 - n) < m)
+      (sym (pow-add 2 (32 - n) n) ∙ ap (λ (m : ℕ). 2 ^ m) (sub-add-cancel within))
+      (digits-lt (mod-lt x (pow-pos (32 - n))) shr-below))
+
+-- ---- exclusive or
+
+bit : (n : ℕ) → (n % 2 ≡ 0) ⊎ (n % 2 ≡ 1)
+bit n = cases (n % 2) (mod-lt n (zero-lt-suc 1))
+  where
+    cases : (b : ℕ) → b < 2 → (b ≡ 0) ⊎ (b ≡ 1)
+    cases zero h = inl refl
+    cases (suc b) h = inr (omega arith)
+
+-- what holds of the bits 0 and 1 holds of the last bit of every number
+by-bit : (P : ℕ → Type 0) → P 0 → P 1 → (n : ℕ) → P (n % 2)
+by-bit P p q n = ⊎-elim (λ e. subst P (sym e) p) (λ e. subst P (sym e) q) (bit n)
+
+differ-assoc : (a b c : ℕ) → differ (differ (a % 2) (b % 2)) (c % 2) ≡ differ (a % 2) (differ (b % 2) (c % 2))
+differ-assoc a b c =
+    by-bit (λ x. differ (differ x (b % 2)) (c % 2) ≡ differ x (differ (b % 2) (c % 2)))
+    refl
+    (by-bit (λ y. differ (differ 1 y) (c % 2) ≡ differ 1 (differ y (c % 2)))
+    refl
+    (by-bit (λ z. differ 0 z ≡ differ 1 (differ 1 z)) refl refl c)
+    b)
+    a
+
+last-bit : (a b : ℕ) → bitXor a b % 2 ≡ differ (a % 2) (b % 2)
+last-bit a b =
+    rw (xor-step a b)
+    (digits-mod (bitXor (a / 2) (b / 2))
+    (by-bit (λ x. differ x (b % 2) < 2) (mod-lt b (zero-lt-suc 1)) (by-bit (λ y. differ 1 y < 2) (omega arith) (omega arith) b) a))
+
+half : (a b : ℕ) → bitXor a b / 2 ≡ bitXor (a / 2) (b / 2)
+half a b = xor-shr a b 1
+
+pub xor-assoc : (a b c : ℕ) → bitXor (bitXor a b) c ≡ bitXor a (bitXor b c)
+xor-assoc a =
+    bin-ind (λ (n : ℕ). (b c : ℕ) → bitXor (bitXor n b) c ≡ bitXor n (bitXor b c))
+    (λ b c. refl)
+    (λ n ih b c.
+    xor-step (bitXor n b) c
+    ∙ ap₂ (λ (x y : ℕ). bitXor x (c / 2) * 2 + differ y (c % 2)) (half n b) (last-bit n b)
+    ∙ ap₂ (λ (x y : ℕ). x * 2 + y) (ih (b / 2) (c / 2)) (differ-assoc n b c)
+    ∙ sym (ap₂ (λ (x y : ℕ). bitXor (n / 2) x * 2 + differ (n % 2) y) (half b c) (last-bit b c))
+    ∙ sym (xor-step n (bitXor b c)))
+    a
+
+-- the same word twice leaves nothing
+pub xor-cancel : (a b : ℕ) → bitXor (bitXor a b) b ≡ a
+xor-cancel a b = xor-assoc a b b ∙ ap (bitXor a) (xor-self b) ∙ xor-zero-r a
