@@ -1,0 +1,102 @@
+// The compression function over the blocks of a slice (5.3). The expansion goes along with the rounds, four words ahead of each
+// four rounds, since the processor can then do both at once.
+use crate::block::{grow_four, load};
+use crate::round::{four_early, four_late};
+use crate::Registers;
+ghost use mathlib.Core.Path.{_≡_};
+ghost use Prim.Native.Nat.{_+_, _*_, _≤_};
+ghost use lib.ListN.{length};
+ghost use Rattle.sm3.specs.Sm3.{wordsAt, xored, compressed, iterated};
+ghost use Rattle.sm3.specs.Sm3Laws.{constants, grown, roundsFrom};
+
+// The rounds 0 to 15, and the words W_16 to W_31.
+fn first_rounds(v: Registers, w: &mut [u32], t: &[u32]) -> Registers
+    requires { ⌜ length (now w) ≡ 68 ⌝ }
+    requires { ⌜ now t ≡ constants ⌝ }
+    ensures { λ q. ⌜ now (w .exit) ≡ grown 16 (now (w .entry)) 16 ⌝ }
+    ensures { λ q. ⌜ q ≡ roundsFrom 16 0 (now (w .exit)) v ⌝ }
+{
+    let mut r = v;
+    let mut i = 0;
+    while i < 16 {
+        grow_four(w, 16 + i);
+        r = four_early(r, i, w, t);
+        i += 4;
+    }
+    r
+}
+
+// The rounds 16 to 51, and the words W_32 to W_67.
+fn middle_rounds(v: Registers, w: &mut [u32], t: &[u32]) -> Registers
+    requires { ⌜ length (now w) ≡ 68 ⌝ }
+    requires { ⌜ now t ≡ constants ⌝ }
+    ensures { λ q. ⌜ now (w .exit) ≡ grown 36 (now (w .entry)) 32 ⌝ }
+    ensures { λ q. ⌜ q ≡ roundsFrom 36 16 (now (w .exit)) v ⌝ }
+{
+    let mut r = v;
+    let mut i = 0;
+    while i < 36 {
+        grow_four(w, 32 + i);
+        r = four_late(r, 16 + i, w, t);
+        i += 4;
+    }
+    r
+}
+
+// The rounds 52 to 63.
+fn last_rounds(v: Registers, w: &[u32], t: &[u32]) -> Registers
+    requires { ⌜ length (now w) ≡ 68 ⌝ }
+    requires { ⌜ now t ≡ constants ⌝ }
+    ensures { λ q. ⌜ q ≡ roundsFrom 12 52 (now (w .entry)) v ⌝ }
+{
+    let mut r = v;
+    let mut i = 0;
+    while i < 12 {
+        r = four_late(r, 52 + i, w, t);
+        i += 4;
+    }
+    r
+}
+
+fn xored(r: Registers, v: Registers) -> Registers
+    ensures { λ q. ⌜ q ≡ xored r v ⌝ }
+{
+    Registers {
+        a: r.a ^ v.a,
+        b: r.b ^ v.b,
+        c: r.c ^ v.c,
+        d: r.d ^ v.d,
+        e: r.e ^ v.e,
+        f: r.f ^ v.f,
+        g: r.g ^ v.g,
+        h: r.h ^ v.h,
+    }
+}
+
+// CF on the block of m that starts at at.
+fn compress(v: Registers, m: &[u8], at: usize, t: &[u32]) -> Registers
+    requires { ⌜ at + 64 ≤ length (now m) ⌝ }
+    requires { ⌜ now t ≡ constants ⌝ }
+    ensures { λ q. ⌜ q ≡ compressed v (wordsAt 16 (now (m .entry)) at) ⌝ }
+{
+    let mut w = load(m, at);
+    let first = first_rounds(v, &mut w, t);
+    let middle = middle_rounds(first, &mut w, t);
+    let last = last_rounds(middle, &w, t);
+    xored(last, v)
+}
+
+// The first n blocks of m, one after the other.
+pub(crate) fn iterate(v: Registers, m: &[u8], n: usize, t: &[u32]) -> Registers
+    requires { ⌜ 64 * n ≤ length (now m) ⌝ }
+    requires { ⌜ now t ≡ constants ⌝ }
+    ensures { λ q. ⌜ q ≡ iterated n (now (m .entry)) v ⌝ }
+{
+    let mut value = v;
+    let mut i = 0;
+    while i < n {
+        value = compress(value, m, 64 * i, t);
+        i += 1;
+    }
+    value
+}
