@@ -1,6 +1,6 @@
 -- The hash SM3, in the order of GB/T 32905-2016. Words are 32 bits wide, and their sums drop the carry (document 01, Part 1).
 use Prim.Native.Nat.{ℕ, zero, suc, _+_, _-_, _*_, _/_, _%_, _^_}
-use mathlib.Core.Bool.{Bool, cond}
+use mathlib.Core.Bool.{cond}
 use mathlib.Core.List.{List, [], _∷_, _++_}
 use lib.Bits.{bitAnd, bitOr}
 use lib.Dec.{ltb}
@@ -24,7 +24,7 @@ iv =
       e = 0xa96f30bc;
       f = 0x163138aa;
       g = 0xe38dee4d;
-      h = 0xb0fb0e4e
+      h = 0xb0fb0e4e;
     }
 
 -- 4.2 the constant T of round j
@@ -94,7 +94,7 @@ roundWith ff gg t w w′ r =
       e = p0 tt2;
       f = r .e;
       g = r .f ⋘ 19;
-      h = r .g
+      h = r .g;
     }
 
 -- round j with the words W_0 .. W_67; W'_j = W_j ⊕ W_j+4
@@ -123,7 +123,7 @@ xored r v =
       e = r .e ⊕ v .e;
       f = r .f ⊕ v .f;
       g = r .g ⊕ v .g;
-      h = r .h ⊕ v .h
+      h = r .h ⊕ v .h;
     }
 
 -- the compression function CF on the value V and a block's sixteen words

@@ -1,7 +1,7 @@
 -- The standard's examples (GB/T 32905-2016, Annex A), computed from the definition.
 use Prim.Native.Nat.{ℕ, zero, suc}
 use mathlib.Core.Path.{_≡_, refl}
-use mathlib.Core.List.{List, [], _∷_, _++_}
+use mathlib.Core.List.{List, [], _∷_}
 use Rattle.words.specs.Bytes.{beAt, beBytes}
 use Rattle.words.specs.Words.{_⋘_}
 use Rattle.sm3.specs.Sm3.{sm3Of, padded, zerosAfter, wordsAt, nextWord, expand, round, roundWith, rounds, ff, gg, compressed, iterated, digest}

@@ -1,20 +1,23 @@
 -- Laws of SM3, in the form in which the code's loops need them.
 use Prim.Native.Nat.{ℕ, zero, suc, _+_, _-_, _*_, _/_, _%_, _^_, _≤_, _<_}
-use mathlib.Core.Path.{_≡_, refl, sym, ap, ap₂, _∙_, subst}
+use mathlib.Core.Path.{_≡_, refl, sym, ap, _∙_}
 use mathlib.Core.Bool.{Bool, true, false, cond}
-use mathlib.Core.List.{List, [], _∷_, _++_}
+use mathlib.Core.List.{List, [], _∷_, _++_, append-assoc}
 use native.Mathlib.Nat.{add-assoc, add-suc, add-zero, zero-add}
 use native.Mathlib.Numerals.{add-one, add-four}
 use native.Mathlib.Omega.{arith}
-use borrow.Author.Tests.{lt-ltb, le-ltb, eqb-true}
+use borrow.Author.Tests.{lt-ltb, le-ltb, ltb-true, ltb-false, eqb-true}
 use lib.Dec.{ltb, eqb}
-use lib.ListN.{length, getD, set, take, drop, length-set}
-use lib.Seq.{getD-take, getD-set-other, take-all, take-suc-set}
-use Rattle.words.specs.Bytes.{beAt}
+use lib.ListN.{length, getD, set, take, drop, replicate, length-set, length-append, length-drop, length-replicate, replicate-append-replicate, List·getD-append}
+use lib.Seq.{getD-take, getD-drop, getD-set-other, take-all, take-length, take-suc-set, set-at, drop-append-le}
+use Rattle.words.specs.Bytes.{beAt, beBytes, putBe}
+use Rattle.words.specs.BytesLaws.{beAt-agree, length-beBytes, putBe-seam}
+use Rattle.words.specs.Codes.{done, badArgument}
 use Rattle.words.specs.Words.{_⊕_, _⋘_}
-use Rattle.words.specs.Tables.{every, entry-rule}
+use Rattle.words.specs.Tables.{entry-rule}
 use Rattle.sm3.specs.declared.Registers.{Registers}
-use Rattle.sm3.specs.Sm3.{constant, parity, majority, choice, ff, gg, roundWith, round, rounds, nextWord, expand, compressed, wordsAt, xored, iterated}
+use Rattle.sm3.specs.declared.Hash.{Hash}
+use Rattle.sm3.specs.Sm3.{constant, parity, majority, choice, ff, gg, roundWith, round, rounds, nextWord, expand, compressed, wordsAt, xored, iterated, zerosAfter, padded, iv, digest, sm3Of, sm3Answer}
 
 -- ---- the constants: T of each round, rotated by the round's number
 
@@ -130,12 +133,13 @@ rounds-grown (suc m) n j w k r h =
 next-word-take : (w : List ℕ) (j : ℕ) → 16 ≤ j → nextWord (take j w) j ≡ nextWord w j
 unfolding nextWord
 next-word-take w j h =
-    rw
-    (getD-take j w (j - 16) 0 (omega arith),
-    getD-take j w (j - 9) 0 (omega arith),
-    getD-take j w (j - 3) 0 (omega arith),
-    getD-take j w (j - 13) 0 (omega arith),
-    getD-take j w (j - 6) 0 (omega arith))
+    rw (
+      getD-take j w (j - 16) 0 (omega arith),
+      getD-take j w (j - 9) 0 (omega arith),
+      getD-take j w (j - 3) 0 (omega arith),
+      getD-take j w (j - 13) 0 (omega arith),
+      getD-take j w (j - 6) 0 (omega arith),
+    )
 
 -- the words that were stored are the expansion
 grown-expands : (n : ℕ) (w : List ℕ) → 16 + n ≤ length w → take (16 + n) (grown n w 16) ≡ expand n (take 16 w)
@@ -169,7 +173,7 @@ reached-more i s k w₀ r₀ {w} {w′} {r} {r′} reached e p q =
     let kept : r ≡ roundsFrom i s w′ r₀ = reached .registers ∙ rw p (sym (rounds-grown 4 i s w (s + 16 + i) r₀ (omega arith))) in
     record {
       words = p ∙ rw (reached .words) (grown-on 4 i w₀ (s + 16));
-      registers = q ∙ rw (e, kept) (four-more i s w′ r₀)
+      registers = q ∙ rw (e, kept) (four-more i s w′ r₀);
     }
 
 -- ---- a block
@@ -188,7 +192,7 @@ unfolding compressed
 compress-of v block w w₁ w₂ {first} {middle} {last} l b p f q m e =
     let all : w₂ ≡ grown 52 w 16 = q ∙ rw p (grown-on 36 16 w 16) in
     let words : w₂ ≡ expand 52 block =
-      sym (take-all 68 w₂ (rw (all, length-grown 52 w 16) (omega arith))) ∙ rw (all, ← b) (grown-expands 52 w (omega arith)) in
+    sym (take-all 68 w₂ (rw (all, length-grown 52 w 16) (omega arith))) ∙ rw (all, ← b) (grown-expands 52 w (omega arith)) in
     let f′ : first ≡ roundsFrom 16 0 w₂ v = f ∙ rw q (sym (rounds-grown 36 16 0 w₁ 32 v (omega arith))) in
     let m′ : middle ≡ roundsFrom 52 0 w₂ v = m ∙ rw f′ (rounds-on 36 16 0 w₂ v) in
     let r : last ≡ roundsFrom 64 0 w₂ v = e ∙ rw m′ (rounds-on 12 52 0 w₂ v) in
@@ -196,3 +200,156 @@ compress-of v block w w₁ w₂ {first} {middle} {last} l b p f q m e =
 
 pub reached-length : {i s : ℕ} {w₀ : List ℕ} {r₀ : Registers} {w : List ℕ} {r : Registers} → Reached i s w₀ r₀ w r → length w ≡ length w₀
 reached-length {i} {s} {w₀} reached = ap length (reached .words) ∙ length-grown i w₀ (s + 16)
+
+-- ---- padding
+
+-- the blocks of a padded message of l bytes after its l / 64 whole ones
+unfoldable pub lastBlocks : ℕ → ℕ
+lastBlocks l = cond (ltb (l % 64) 56) 1 2
+
+pub last-blocks-one : (l : ℕ) → l % 64 < 56 → 1 ≡ lastBlocks l
+unfolding lastBlocks
+last-blocks-one l h = rw (lt-ltb (l % 64) 56 h)
+
+pub last-blocks-two : (l : ℕ) → 56 ≤ l % 64 → 2 ≡ lastBlocks l
+unfolding lastBlocks
+last-blocks-two l h = rw (le-ltb (l % 64) 56 h)
+
+-- the last blocks hold the rest of the message, the byte 80, the zeros and the length
+pub last-blocks-fill : (l : ℕ) → l % 64 + 9 + zerosAfter l ≡ 64 * lastBlocks l
+unfolding lastBlocks zerosAfter
+last-blocks-fill l =
+    split (ltb (l % 64) 56)
+    (λ t. let h : l % 64 < 56 = ltb-true (l % 64) 56 t in rw t (omega arith))
+    (λ t. let h : 56 ≤ l % 64 = ltb-false (l % 64) 56 t in rw t (omega arith))
+  where
+    split : {X : Type 0} (b : Bool) → (b ≡ true → X) → (b ≡ false → X) → X
+    split true p q = p refl
+    split false p q = q refl
+
+pub last-blocks-fit : (l : ℕ) → 64 * lastBlocks l ≤ 128
+unfolding lastBlocks
+last-blocks-fit l = bound (ltb (l % 64) 56)
+  where
+    bound : (b : Bool) → 64 * cond b 1 2 ≤ 128
+    bound true = omega arith
+    bound false = omega arith
+
+-- the buffer with the rest of the message, the byte 80 and the length stored
+end-filled : (src : List ℕ) (r z n x : ℕ) → length src ≡ r → r + 9 + z ≡ n → n ≤ 128
+    → putBe 8 (set (src ++ replicate (128 - r) 0) r 0x80) (n - 8) x
+    ≡ (src ++ (0x80 ∷ (replicate z 0 ++ beBytes 8 x))) ++ replicate {A = ℕ} (128 - n) 0
+end-filled src r z n x l e f =
+    let zeros : replicate {A = ℕ} (128 - r) 0 ≡ 0 ∷ (replicate z 0 ++ (replicate 8 0 ++ replicate (128 - n) 0)) =
+    (let k : 128 - r ≡ suc (z + (8 + (128 - n))) = omega arith in
+    rw (k, replicate-append-replicate 8 (128 - n), replicate-append-replicate z (8 + (128 - n)))) in
+    let stored : set (src ++ replicate (128 - r) 0) r 0x80 ≡ (src ++ (0x80 ∷ replicate z 0)) ++ (replicate 8 0 ++ replicate (128 - n) 0) =
+    rw (zeros, set-at src 0 (replicate z 0 ++ (replicate 8 0 ++ replicate (128 - n) 0)) 0x80 r l, append-assoc src (0x80 ∷ replicate z 0)) in
+    let place : length (src ++ (0x80 ∷ replicate z 0)) ≡ n - 8 = rw (length-append, l, length-replicate z) (omega arith) in
+    rw stored
+    (putBe-seam 8 (src ++ (0x80 ∷ replicate z 0)) (replicate 8 0) (replicate (128 - n) 0) (n - 8) x place refl
+    ∙ simp append-assoc)
+
+-- what stands after the whole blocks of the padded message
+padded-rest : (m : List ℕ) → drop (64 * (length m / 64)) (padded m)
+    ≡ drop (64 * (length m / 64)) m ++ (0x80 ∷ (replicate (zerosAfter (length m)) 0 ++ beBytes 8 (8 * length m)))
+unfolding padded
+padded-rest m = drop-append-le (64 * (length m / 64)) m (0x80 ∷ (replicate (zerosAfter (length m)) 0 ++ beBytes 8 (8 * length m))) (omega arith)
+
+drop-replicate : (k n : ℕ) → drop k (replicate {A = ℕ} n 0) ≡ replicate (n - k) 0
+drop-replicate zero n = let e : n - 0 ≡ n = omega arith in rw e
+drop-replicate (suc k) zero = let e : 0 - suc k ≡ 0 = omega arith in rw e
+drop-replicate (suc k) (suc n) = let e : suc n - suc k ≡ n - k = omega arith in rw e (drop-replicate k n)
+
+-- what the code does with its buffer: the rest of the message copied over zeros, the byte 80, the length
+pub end-of : (m : List ℕ) (blocks : ℕ) {copied end : List ℕ} → blocks ≡ lastBlocks (length m)
+    → (let rest = take (length m - length m / 64 * 64) (drop (length m / 64 * 64) m) in
+    copied ≡ take (length rest) rest ++ drop (length rest) (replicate 128 0))
+    → end ≡ putBe 8 (set copied (length m - length m / 64 * 64) 0x80) (64 * blocks - 8) (8 * length m)
+    → end ≡ drop (64 * (length m / 64)) (padded m) ++ replicate {A = ℕ} (128 - 64 * blocks) 0
+end-of m blocks {copied} {end} b p q =
+    let whole = length m / 64 * 64 in
+    let w : whole ≡ 64 * (length m / 64) = omega arith in
+    let r : length m - 64 * (length m / 64) ≡ length m % 64 = omega arith in
+    let l : length (drop (64 * (length m / 64)) m) ≡ length m % 64 = rw (length-drop (64 * (length m / 64)) m) r in
+    let rest : take (length m - whole) (drop whole m) ≡ drop (64 * (length m / 64)) m =
+    rw w (take-all (length m - 64 * (length m / 64)) (drop (64 * (length m / 64)) m) (rw (length-drop (64 * (length m / 64)) m) (omega arith))) in
+    let fill : length m % 64 + 9 + zerosAfter (length m) ≡ 64 * blocks = rw b (last-blocks-fill (length m)) in
+    let room : 64 * blocks ≤ 128 = rw b (last-blocks-fit (length m)) in
+    let copy : copied ≡ drop (64 * (length m / 64)) m ++ replicate (128 - length m % 64) 0 =
+    rw (p, rest, take-length (drop (64 * (length m / 64)) m), l, drop-replicate (length m % 64) 128) in
+    rw (q, copy, w, r, padded-rest m)
+    (end-filled (drop (64 * (length m / 64)) m) (length m % 64) (zerosAfter (length m)) (64 * blocks) (8 * length m) l fill room)
+
+-- ---- iteration
+
+words-append : (n : ℕ) (s t : List ℕ) (at : ℕ) → at + 4 * n ≤ length s → wordsAt n (s ++ t) at ≡ wordsAt n s at
+unfolding wordsAt
+words-append zero s t at h = refl
+words-append (suc n) s t at h =
+    rw (
+      words-append n s t at (omega arith),
+      beAt-agree 4 (s ++ t) s (at + 4 * n) (at + 4 * n) (λ i l. List·getD-append s t 0 (at + 4 * n + i) (omega arith)),
+    )
+
+words-drop : (n : ℕ) (s : List ℕ) (k at : ℕ) → wordsAt n (drop k s) at ≡ wordsAt n s (k + at)
+unfolding wordsAt
+words-drop zero s k at = refl
+words-drop (suc n) s k at =
+    rw (
+      words-drop n s k at,
+      beAt-agree 4 (drop k s) s (at + 4 * n) (k + at + 4 * n)
+          (λ i l. getD-drop k s (at + 4 * n + i) 0 ∙ ap (λ (x : ℕ). getD s x 0) (omega arith)),
+    )
+
+-- the first n blocks do not see what follows them
+iterated-append : (n : ℕ) (s t : List ℕ) (v : Registers) → 64 * n ≤ length s → iterated n (s ++ t) v ≡ iterated n s v
+unfolding iterated
+iterated-append zero s t v h = refl
+iterated-append (suc n) s t v h = rw (iterated-append n s t v (omega arith), words-append 16 s t (64 * n) (omega arith))
+
+iterated-on : (m n : ℕ) (s : List ℕ) (v : Registers) → iterated m (drop (64 * n) s) (iterated n s v) ≡ iterated (n + m) s v
+unfolding iterated
+iterated-on zero n s v = rw add-zero
+iterated-on (suc m) n s v =
+    let e : 64 * n + 64 * m ≡ 64 * (n + m) = omega arith in
+    rw (add-suc, iterated-on m n s v, words-drop 16 s (64 * n) (64 * m), e)
+
+iterated-padded : (n : ℕ) (m : List ℕ) (v : Registers) → 64 * n ≤ length m → iterated n (padded m) v ≡ iterated n m v
+unfolding padded
+iterated-padded n m v h = iterated-append n m (0x80 ∷ (replicate (zerosAfter (length m)) 0 ++ beBytes 8 (8 * length m))) v h
+
+length-padded : (m : List ℕ) → length (padded m) ≡ 64 * (length m / 64 + lastBlocks (length m))
+unfolding padded
+length-padded m =
+    let fill : length m % 64 + 9 + zerosAfter (length m) ≡ 64 * lastBlocks (length m) = last-blocks-fill (length m) in
+    rw (length-append, length-append, length-replicate, length-beBytes) (omega arith)
+
+-- the message's whole blocks, then the last ones, give the hash
+pub sm3-of : (m rest : List ℕ) (blocks : ℕ) {end : List ℕ} {value last : Registers} → blocks ≡ lastBlocks (length m)
+    → end ≡ drop (64 * (length m / 64)) (padded m) ++ rest
+    → value ≡ iterated (length m / 64) m iv → last ≡ iterated blocks end value → digest last ≡ sm3Of m
+unfolding sm3Of
+sm3-of m rest blocks {end} {value} {last} b e v l =
+    let whole = length m / 64 in
+    let total : length (padded m) / 64 ≡ whole + blocks = rw (length-padded m, b) (omega arith) in
+    let first : value ≡ iterated whole (padded m) iv = v ∙ sym (iterated-padded whole m iv (omega arith)) in
+    let room : 64 * blocks ≤ length (drop (64 * whole) (padded m)) = rw (length-drop (64 * whole) (padded m), length-padded m, b) (omega arith) in
+    let all : last ≡ iterated (whole + blocks) (padded m) iv =
+    l ∙ rw (e, iterated-append blocks (drop (64 * whole) (padded m)) rest value room, first) (iterated-on blocks whole (padded m) iv) in
+    rw (all, total)
+
+pub answer-hashed : (m : List ℕ) {d : List ℕ} → length m < 2 ^ 32 → d ≡ sm3Of m → _≡_ {A = Hash} (record { code = done; digest = d }) (sm3Answer m)
+unfolding sm3Answer
+answer-hashed m h e = rw (lt-ltb (length m) (2 ^ 32) h, e)
+
+pub answer-refused : (m : List ℕ) → 2 ^ 32 ≤ length m → _≡_ {A = Hash} (record { code = badArgument; digest = replicate 32 0 }) (sm3Answer m)
+unfolding sm3Answer
+answer-refused m h = rw (le-ltb (length m) (2 ^ 32) h)
+
+-- the eight registers stored one after the other
+pub digest-of : (r : Registers) {o₁ o₂ o₃ o₄ o₅ o₆ o₇ o₈ : List ℕ} → o₁ ≡ putBe 4 (replicate 32 0) 0 (r .a) → o₂ ≡ putBe 4 o₁ 4 (r .b)
+    → o₃ ≡ putBe 4 o₂ 8 (r .c) → o₄ ≡ putBe 4 o₃ 12 (r .d) → o₅ ≡ putBe 4 o₄ 16 (r .e) → o₆ ≡ putBe 4 o₅ 20 (r .f)
+    → o₇ ≡ putBe 4 o₆ 24 (r .g) → o₈ ≡ putBe 4 o₇ 28 (r .h) → o₈ ≡ digest r
+unfolding putBe beBytes digest
+digest-of r a b c d e f g h = rw (h, g, f, e, d, c, b, a)

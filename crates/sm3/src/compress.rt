@@ -1,8 +1,10 @@
 // The compression function over the blocks of a slice (5.3). The expansion goes along with the rounds, four words ahead of each
 // four rounds, since the processor can then do both at once.
-use crate::block::{grow_four, load};
-use crate::round::{four_early, four_late};
 use crate::Registers;
+use crate::block::grow_four;
+use crate::block::load;
+use crate::round::four_early;
+use crate::round::four_late;
 ghost use mathlib.Core.Path.{_≡_};
 ghost use Prim.Native.Nat.{_+_, _*_, _≤_};
 ghost use lib.ListN.{length};

@@ -1,7 +1,16 @@
 // The hash SM3 (GB/T 32905-2016).
 mod block;
 mod compress;
+mod padding;
 mod round;
+mod table;
+
+use compress::iterate;
+use words::bytes::put_be;
+use words::codes::BAD_ARGUMENT;
+use words::codes::DONE;
+ghost use mathlib.Core.Path.{_≡_};
+ghost use Rattle.sm3.specs.Sm3.{iv, digest, sm3Answer};
 
 // The eight registers A to H, also the value V that a block changes (5.3).
 pub struct Registers {
@@ -19,4 +28,58 @@ pub struct Registers {
 pub struct Hash {
     pub code: u16,
     pub digest: [u8; 32],
+}
+
+// The initial value (4.1).
+fn start() -> Registers
+    ensures { λ r. ⌜ r ≡ iv ⌝ }
+{
+    Registers {
+        a: 0x7380166f,
+        b: 0x4914b2b9,
+        c: 0x172442d7,
+        d: 0xda8a0600,
+        e: 0xa96f30bc,
+        f: 0x163138aa,
+        g: 0xe38dee4d,
+        h: 0xb0fb0e4e,
+    }
+}
+
+// The registers in bytes (5.4).
+fn digest(r: Registers) -> [u8; 32]
+    ensures { λ s. ⌜ s ≡ digest r ⌝ }
+{
+    let mut out = [0u8; 32];
+    put_be(&mut out, 0, 4, r.a as u64);
+    put_be(&mut out, 4, 4, r.b as u64);
+    put_be(&mut out, 8, 4, r.c as u64);
+    put_be(&mut out, 12, 4, r.d as u64);
+    put_be(&mut out, 16, 4, r.e as u64);
+    put_be(&mut out, 20, 4, r.f as u64);
+    put_be(&mut out, 24, 4, r.g as u64);
+    put_be(&mut out, 28, 4, r.h as u64);
+    out
+}
+
+// The digest of a message of 0 to 2^32 - 1 bytes; a longer one is refused (document 01, Part 1).
+pub fn sm3(message: &[u8]) -> Hash
+    ensures { λ r. ⌜ r ≡ sm3Answer (now (message .entry)) ⌝ }
+{
+    let len = message.len();
+    if 0xffff_ffff < len {
+        return Hash {
+            code: BAD_ARGUMENT,
+            digest: [0; 32],
+        };
+    }
+    let t = table::constants();
+    let blocks = padding::last_blocks(len);
+    let end = padding::end(message, blocks);
+    let value = iterate(start(), message, len / 64, &t);
+    let last = iterate(value, &end, blocks, &t);
+    Hash {
+        code: DONE,
+        digest: digest(last),
+    }
 }

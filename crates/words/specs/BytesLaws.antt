@@ -1,6 +1,6 @@
 -- Laws of numbers in bytes, each for every width.
 use Prim.Native.Nat.{ℕ, zero, suc, _+_, _-_, _*_, _/_, _%_, _^_, _≤_, _<_}
-use mathlib.Core.Path.{_≡_, refl, sym, ap, ap₂, _∙_, subst}
+use mathlib.Core.Path.{_≡_, refl, sym, ap₂, _∙_}
 use mathlib.Core.Logic.{_⊎_, inl, inr}
 use mathlib.Core.List.{List, [], _∷_, _++_, append-assoc}
 use native.Mathlib.Nat.{add-suc, add-zero, pow-suc, mod-one, one-le-pow, pow-le-pow-right, lt-of-lt-of-le, le-trans, le-suc, zero-lt-suc, not-suc-le-zero}
@@ -8,7 +8,7 @@ use native.Mathlib.Numerals.{add-one}
 use native.Mathlib.Omega.{arith}
 use lib.Arith.{digits-lt, mod-mul}
 use lib.ListN.{length, getD, set, take, drop, length-set, length-append, take-append-drop}
-use lib.Seq.{set-split, take-set-le, drop-set-lt, getD-set-same, getD-set-other, drop-cons, append-snoc}
+use lib.Seq.{take-set-le, drop-set-lt, getD-set-same, getD-set-other, drop-cons, take-at, drop-at, drop-drop}
 use Rattle.words.specs.Bytes.{beAt, beBytes, putBe}
 
 -- every element is a byte
@@ -68,6 +68,12 @@ putBe-is (suc k) s at x h =
     after s j v l =
         drop-cons (set s j v) j 0 (rw length-set l)
         ∙ ap₂ (λ (y : ℕ) (q : List ℕ). y ∷ q) (getD-set-same s j v 0 l) (drop-set-lt (suc j) s j v (omega arith))
+
+-- a store where k bytes stand between two lists
+pub putBe-seam : (k : ℕ) (p q t : List ℕ) (at x : ℕ) → length p ≡ at → length q ≡ k → putBe k (p ++ (q ++ t)) at x ≡ p ++ (beBytes k x ++ t)
+putBe-seam k p q t at x l m =
+    putBe-is k (p ++ (q ++ t)) at x (rw (length-append, length-append, l, m) (omega arith))
+    ∙ ap₂ (λ (a b : List ℕ). a ++ (beBytes k x ++ b)) (take-at p (q ++ t) at l) (rw (← drop-drop k at, drop-at p (q ++ t) at l) (drop-at q t k m))
 
 -- a store elsewhere leaves an element
 pub getD-putBe : (k : ℕ) (s : List ℕ) (at x i : ℕ) → (i < at) ⊎ (at + k ≤ i) → getD (putBe k s at x) i 0 ≡ getD s i 0

@@ -5,7 +5,7 @@ use mathlib.Core.Logic.{_⊎_, inl, inr, ⊎-elim}
 use native.Mathlib.Nat.{mod-lt, mul-div-cancel, mul-mod-left, add-zero, zero-lt-suc, sub-add-cancel}
 use native.Mathlib.Omega.{arith}
 use lib.Arith.{digits-lt, digits-mod, mod-mul, bin-ind}
-use lib.Bits.{bitOr, bitXor, differ, or-shifted, xor-step, xor-shr, xor-lt, xor-self, xor-zero-r}
+use lib.Bits.{bitOr, bitXor, differ, or-shifted, xor-step, xor-shr, xor-self, xor-zero-r}
 use lib.Pow.{pow-pos, pow-add, shr-lt}
 use Rattle.words.specs.Words.{_⋘_}
 

@@ -2,43 +2,31 @@ use borrow.Author.Needs.{needs}
 use Rattle.sm3.specs.Sm3Laws.{four-grown}
 use Rattle.sm3.proofs.block.grow_four.Statement.{statement}
 use Rattle.sm3.proofs.block.grow_four.Tie as tie
-use Rattle.sm3.proofs.block.grow_four.Reads as reads
-use Rattle.sm3.proofs.block.grow_four.Lts as lts
-use Rattle.sm3.proofs.block.grow.Reads as grow-reads
 
--- src/block.rt:58:5
 grow-requires : tie.Need-grow-requires
 grow-requires c κs = search needs
 
--- src/block.rt:59:13
 add-grow : tie.Need-add-grow
 add-grow c = search needs
 
--- src/block.rt:59:5
 grow-requires-2 : tie.Need-grow-requires-2
 grow-requires-2 c κs = search needs
 
--- src/block.rt:60:13
 add-grow-2 : tie.Need-add-grow-2
 add-grow-2 c = search needs
 
--- src/block.rt:60:5
 grow-requires-3 : tie.Need-grow-requires-3
 grow-requires-3 c κs = search needs
 
--- src/block.rt:61:13
 add-grow-3 : tie.Need-add-grow-3
 add-grow-3 c = search needs
 
--- src/block.rt:61:5
 grow-requires-4 : tie.Need-grow-requires-4
 grow-requires-4 c κs = search needs
 
--- src/block.rt:53:1
 same-length : tie.Need-same-length
 same-length c = search needs
 
--- src/block.rt:53:1
 returns : tie.Need-returns
 returns c = four-grown (c .before .before .before .before .before .before .before .before .before .before .before .before .before .before .before .before .before .args .w .now) (c .before .before .before .before .before .before .before .before .before .before .before .before .before .before .before .before .before .args .j) (c .before .before .before .before .before .before .before .before .before .before .before .before .before .before .grow .ensures) (c .before .before .before .before .before .before .before .before .before .before .grow2 .ensures) (c .before .before .before .before .before .before .grow3 .ensures) (c .before .before .grow4 .ensures)
 

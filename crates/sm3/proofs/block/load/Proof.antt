@@ -1,5 +1,5 @@
-use Prim.Native.Nat.{_≤_, _-_, _%_}
-use mathlib.Core.Path.{_≡_, refl, sym, ap, _∙_}
+use Prim.Native.Nat.{_≤_, _-_}
+use mathlib.Core.Path.{_≡_, refl}
 use borrow.Author.Needs.{needs}
 use native.Mathlib.Omega.{arith}
 use lib.ListN.{length, take, length-set}
@@ -7,9 +7,6 @@ use Rattle.sm3.specs.Sm3.{wordsAt}
 use Rattle.sm3.specs.Sm3Laws.{load-more}
 use Rattle.sm3.proofs.block.load.Statement.{statement}
 use Rattle.sm3.proofs.block.load.Tie as tie
-use Rattle.sm3.proofs.block.load.Reads as reads
-use Rattle.sm3.proofs.block.load.Lts as lts
-use Rattle.words.proofs.bytes.word_at.Reads as word-at-reads
 
 abbrev Inv-loop : tie.InvT-loop
 Inv-loop m at w₀ j₀ w j = (j ≤ 16) × ((length w ≡ 68) × (take j w ≡ wordsAt j m at))
@@ -17,44 +14,34 @@ Inv-loop m at w₀ j₀ w j = (j ≤ 16) × ((length w ≡ 68) × (take j w ≡ 
 abbrev μ-loop : tie.MeasureT-loop
 μ-loop m at w₀ j₀ w j = 16 - j
 
--- src/block.rt:18:5
 loop-holds : tie.Need-loop-holds Inv-loop μ-loop
 unfolding wordsAt
 loop-holds c = (search needs, (refl, refl))
 
--- src/block.rt:19:32
 mul-word-at : tie.Need-mul-word-at Inv-loop μ-loop
 mul-word-at c = search needs
 
--- src/block.rt:19:27
 add-word-at : tie.Need-add-word-at Inv-loop μ-loop
 add-word-at c = search needs
 
--- src/block.rt:19:16
 word-at-requires : tie.Need-word-at-requires Inv-loop μ-loop
 word-at-requires c κs = search needs
 
--- src/block.rt:19:9
 mul-w : tie.Need-mul-w Inv-loop μ-loop
 mul-w c = search needs
 
--- src/block.rt:19:9
 array-write-w : tie.Need-array-write-w Inv-loop μ-loop
 array-write-w c = search needs
 
--- src/block.rt:20:9
 add-j : tie.Need-add-j Inv-loop μ-loop
 add-j c = search needs
 
--- src/block.rt:18:5
 loop-less : tie.Need-loop-less Inv-loop μ-loop
 loop-less c = search needs
 
--- src/block.rt:18:5
 loop-again : tie.Need-loop-again Inv-loop μ-loop
 loop-again c = (search needs, (rw length-set (c .before .before .loop .inv .1 .0), load-more (c .before .before .before .before .args .m .now) (c .before .before .before .before .args .at) (c .before .before .loop .j) (c .before .before .loop .w) (omega arith) (c .before .before .loop .inv .1 .1) (c .word-at .ensures)))
 
--- src/block.rt:11:1
 returns : tie.Need-returns Inv-loop μ-loop
 returns c = (search needs, let e : c .before .loop .j ≡ 16 = omega arith in rw e at (c .before .loop .inv .1 .1))
 

@@ -4,47 +4,31 @@ use Rattle.sm3.specs.Sm3.{wordsAt}
 use Rattle.sm3.specs.Sm3Laws.{compress-of}
 use Rattle.sm3.proofs.compress.compress.Statement.{statement}
 use Rattle.sm3.proofs.compress.compress.Tie as tie
-use Rattle.sm3.proofs.compress.compress.Reads as reads
-use Rattle.sm3.proofs.compress.compress.Lts as lts
-use Rattle.sm3.proofs.block.load.Reads as load-reads
-use Rattle.sm3.proofs.compress.first_rounds.Reads as first-rounds-reads
-use Rattle.sm3.proofs.compress.last_rounds.Reads as last-rounds-reads
-use Rattle.sm3.proofs.compress.middle_rounds.Reads as middle-rounds-reads
-use Rattle.sm3.proofs.compress.xored.Reads as xored-reads
 
--- src/compress.rt:82:17
 load-requires : tie.Need-load-requires
 load-requires c κs = search needs
 
--- src/compress.rt:83:33
 slice-aggregate-first-rounds : tie.Need-slice-aggregate-first-rounds
 slice-aggregate-first-rounds c = search needs
 
--- src/compress.rt:83:9
 first-rounds-requires : tie.Need-first-rounds-requires
 first-rounds-requires c κs = search needs
 
--- src/compress.rt:84:39
 slice-aggregate-middle-rounds : tie.Need-slice-aggregate-middle-rounds
 slice-aggregate-middle-rounds c = search needs
 
--- src/compress.rt:84:9
 middle-rounds-requires : tie.Need-middle-rounds-requires
 middle-rounds-requires c κs = search needs
 
--- src/compress.rt:85:36
 slice-aggregate-last-rounds : tie.Need-slice-aggregate-last-rounds
 slice-aggregate-last-rounds c = search needs
 
--- src/compress.rt:85:9
 last-rounds-requires : tie.Need-last-rounds-requires
 last-rounds-requires c κs = search needs
 
--- src/compress.rt:86:5
 xored-requires : tie.Need-xored-requires
 xored-requires c κs = search needs
 
--- src/compress.rt:77:1
 returns : tie.Need-returns
 returns c = c .xored .ensures
     ∙ compress-of (c .before .before .before .before .before .before .before .before .before .before .before .before .args .v) (wordsAt 16 (c .before .before .before .before .before .before .before .before .before .before .before .before .args .m .now) (c .before .before .before .before .before .before .before .before .before .before .before .before .args .at)) (c .before .before .before .before .before .before .before .before .before .load .result) (c .before .before .before .before .before .before .before .first-rounds .last .1 .0) (c .before .before .before .before .middle-rounds .last .1 .0)

@@ -6,9 +6,6 @@ use native.Mathlib.Numerals.{add-one}
 use Rattle.sm3.specs.Sm3.{iterated}
 use Rattle.sm3.proofs.compress.iterate.Statement.{statement}
 use Rattle.sm3.proofs.compress.iterate.Tie as tie
-use Rattle.sm3.proofs.compress.iterate.Reads as reads
-use Rattle.sm3.proofs.compress.iterate.Lts as lts
-use Rattle.sm3.proofs.compress.compress.Reads as compress-reads
 
 abbrev Inv-loop : tie.InvT-loop
 Inv-loop m n t value₀ i₀ value i = (i ≤ n) × (value ≡ iterated i m value₀)
@@ -16,33 +13,26 @@ Inv-loop m n t value₀ i₀ value i = (i ≤ n) × (value ≡ iterated i m valu
 abbrev μ-loop : tie.MeasureT-loop
 μ-loop m n t value₀ i₀ value i = n - i
 
--- src/compress.rt:97:5
 loop-holds : tie.Need-loop-holds Inv-loop μ-loop
 unfolding iterated
 loop-holds c = (search needs, refl)
 
--- src/compress.rt:98:36
 mul-compress : tie.Need-mul-compress Inv-loop μ-loop
 mul-compress c = search needs
 
--- src/compress.rt:98:9
 compress-requires : tie.Need-compress-requires Inv-loop μ-loop
 compress-requires c κs = (omega arith, c .before .before .before .before .pre .1)
 
--- src/compress.rt:99:9
 add-i : tie.Need-add-i Inv-loop μ-loop
 add-i c = search needs
 
--- src/compress.rt:97:5
 loop-less : tie.Need-loop-less Inv-loop μ-loop
 loop-less c = search needs
 
--- src/compress.rt:97:5
 loop-again : tie.Need-loop-again Inv-loop μ-loop
 unfolding iterated
 loop-again c = (search needs, c .compress .ensures ∙ rw (add-one, c .before .before .loop .inv .1))
 
--- src/compress.rt:90:1
 returns : tie.Need-returns Inv-loop μ-loop
 returns c = let e : c .before .loop .i ≡ c .before .before .before .before .args .n = omega arith in rw e at (c .before .loop .inv .1)
 

@@ -1,15 +1,10 @@
 use Prim.Native.Nat.{_+_, _≤_, _-_, _%_}
-use mathlib.Core.Path.{_≡_, refl, sym, ap, _∙_}
+use mathlib.Core.Path.{_≡_, refl, _∙_}
 use borrow.Author.Needs.{needs}
 use native.Mathlib.Omega.{arith}
-use lib.ListN.{length, take}
 use Rattle.sm3.specs.Sm3Laws.{Reached, reached-none, reached-more, reached-length}
 use Rattle.sm3.proofs.compress.middle_rounds.Statement.{statement}
 use Rattle.sm3.proofs.compress.middle_rounds.Tie as tie
-use Rattle.sm3.proofs.compress.middle_rounds.Reads as reads
-use Rattle.sm3.proofs.compress.middle_rounds.Lts as lts
-use Rattle.sm3.proofs.block.grow_four.Reads as grow-four-reads
-use Rattle.sm3.proofs.round.four_late.Reads as four-late-reads
 
 abbrev Inv-loop : tie.InvT-loop
 Inv-loop w₀ t r₀ i₀ w r i = (i ≤ 36) × ((i % 4 ≡ 0) × Reached i 16 w₀ r₀ w r)
@@ -17,43 +12,33 @@ Inv-loop w₀ t r₀ i₀ w r i = (i ≤ 36) × ((i % 4 ≡ 0) × Reached i 16 w
 abbrev μ-loop : tie.MeasureT-loop
 μ-loop w₀ t r₀ i₀ w r i = 36 - i
 
--- src/compress.rt:38:5
 loop-holds : tie.Need-loop-holds Inv-loop μ-loop
 loop-holds c = (search needs, (search needs, reached-none 16 (c .before .before .args .w .now) (c .before .before .args .v)))
 
--- src/compress.rt:39:22
 add-grow-four : tie.Need-add-grow-four Inv-loop μ-loop
 add-grow-four c = search needs
 
--- src/compress.rt:39:9
 grow-four-requires : tie.Need-grow-four-requires Inv-loop μ-loop
 grow-four-requires c κs = let l = reached-length (c .before .before .loop .inv .1 .1) in omega arith
 
--- src/compress.rt:40:26
 add-four-late : tie.Need-add-four-late Inv-loop μ-loop
 add-four-late c = search needs
 
--- src/compress.rt:40:9
 four-late-requires : tie.Need-four-late-requires Inv-loop μ-loop
 four-late-requires c κs = (omega arith, (omega arith, (c .before .before .before .grow-four .kept .0 ∙ reached-length (c .before .before .before .before .before .before .loop .inv .1 .1) ∙ c .before .before .before .before .before .before .before .before .before .pre .0, c .before .before .before .before .before .before .before .before .before .pre .1)))
 
--- src/compress.rt:41:9
 add-i : tie.Need-add-i Inv-loop μ-loop
 add-i c = search needs
 
--- src/compress.rt:38:5
 loop-less : tie.Need-loop-less Inv-loop μ-loop
 loop-less c = search needs
 
--- src/compress.rt:38:5
 loop-again : tie.Need-loop-again Inv-loop μ-loop
 loop-again c = (omega arith, (omega arith, reached-more (c .before .before .before .before .before .before .before .loop .i) 16 (16 + c .before .before .before .before .before .before .before .loop .i) (c .before .before .before .before .before .before .before .before .before .before .args .w .now) (c .before .before .before .before .before .before .before .before .before .before .args .v) (c .before .before .before .before .before .before .before .loop .inv .1 .1) refl (c .before .before .before .before .grow-four .ensures) (c .four-late .ensures)))
 
--- src/compress.rt:30:1
 same-length : tie.Need-same-length Inv-loop μ-loop
 same-length c = reached-length (c .before .loop .inv .1 .1)
 
--- src/compress.rt:30:1
 returns : tie.Need-returns Inv-loop μ-loop
 returns c = let e : c .before .loop .i ≡ 36 = omega arith in let all = rw e at (c .before .loop .inv .1 .1) in (all .words, all .registers)
 

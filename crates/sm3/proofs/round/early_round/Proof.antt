@@ -4,60 +4,43 @@ use native.Mathlib.Omega.{arith}
 use Rattle.sm3.specs.Sm3Laws.{ff-early, gg-early, round-of, table-length}
 use Rattle.sm3.proofs.round.early_round.Statement.{statement}
 use Rattle.sm3.proofs.round.early_round.Tie as tie
-use Rattle.sm3.proofs.round.early_round.Reads as reads
-use Rattle.sm3.proofs.round.early_round.Lts as lts
-use Rattle.sm3.proofs.round.parity.Reads as parity-reads
-use Rattle.sm3.proofs.round.round_with.Reads as round-with-reads
 
--- src/round.rt:67:9
 parity-requires : tie.Need-parity-requires
 parity-requires c κs = search needs
 
--- src/round.rt:68:9
 parity-requires-2 : tie.Need-parity-requires-2
 parity-requires-2 c κs = search needs
 
--- src/round.rt:69:27
 mul-round-with : tie.Need-mul-round-with
 mul-round-with c = search needs
 
--- src/round.rt:69:27
 shared-slice-read-round-with : tie.Need-shared-slice-read-round-with
 shared-slice-read-round-with c = let e = table-length (c .before .before .before .before .before .pre .1 .1) in omega arith
 
--- src/round.rt:69:33
 mul-round-with-2 : tie.Need-mul-round-with-2
 mul-round-with-2 c = search needs
 
--- src/round.rt:69:33
 shared-slice-read-round-with-2 : tie.Need-shared-slice-read-round-with-2
 shared-slice-read-round-with-2 c = search needs
 
--- src/round.rt:69:39
 mul-round-with-3 : tie.Need-mul-round-with-3
 mul-round-with-3 c = search needs
 
--- src/round.rt:69:39
 shared-slice-read-round-with-3 : tie.Need-shared-slice-read-round-with-3
 shared-slice-read-round-with-3 c = search needs
 
--- src/round.rt:69:48
 add-round-with : tie.Need-add-round-with
 add-round-with c = search needs
 
--- src/round.rt:69:46
 mul-round-with-4 : tie.Need-mul-round-with-4
 mul-round-with-4 c = search needs
 
--- src/round.rt:69:46
 shared-slice-read-round-with-4 : tie.Need-shared-slice-read-round-with-4
 shared-slice-read-round-with-4 c = search needs
 
--- src/round.rt:69:5
 round-with-requires : tie.Need-round-with-requires
 round-with-requires c κs = search needs
 
--- src/round.rt:61:1
 returns : tie.Need-returns
 returns c = round-of (c .before .before .before .before .before .before .before .before .before .args .j) (c .before .before .before .before .before .before .before .before .before .args .w .now) (c .before .before .before .before .before .before .before .before .before .args .t .now) (c .before .before .before .before .before .before .before .before .before .args .r) (omega arith) (c .before .before .before .before .before .before .before .before .before .pre .1 .1) (c .before .before .before .before .before .before .parity .ensures ∙ ff-early (c .before .before .before .before .before .before .before .before .before .args .j) (c .before .before .before .before .before .before .before .before .before .args .r .a) (c .before .before .before .before .before .before .before .before .before .args .r .b) (c .before .before .before .before .before .before .before .before .before .args .r .c) (c .before .before .before .before .before .before .before .before .before .pre .0)) (c .before .before .before .before .before .parity2 .ensures ∙ gg-early (c .before .before .before .before .before .before .before .before .before .args .j) (c .before .before .before .before .before .before .before .before .before .args .r .e) (c .before .before .before .before .before .before .before .before .before .args .r .f) (c .before .before .before .before .before .before .before .before .before .args .r .g) (c .before .before .before .before .before .before .before .before .before .pre .0)) (c .round-with .ensures)
 

@@ -1,41 +1,29 @@
 use borrow.Author.Needs.{needs}
-use mathlib.Core.Path.{_∙_}
 use native.Mathlib.Omega.{arith}
 use Rattle.sm3.proofs.round.four_late.Statement.{statement}
 use Rattle.sm3.proofs.round.four_late.Tie as tie
-use Rattle.sm3.proofs.round.four_late.Reads as reads
-use Rattle.sm3.proofs.round.four_late.Lts as lts
-use Rattle.sm3.proofs.round.late_round.Reads as late-round-reads
 
--- src/round.rt:105:9
 late-round-requires : tie.Need-late-round-requires
 late-round-requires c κs = (omega arith, (omega arith, c .before .before .pre .1 .1))
 
--- src/round.rt:106:29
 add-late-round : tie.Need-add-late-round
 add-late-round c = search needs
 
--- src/round.rt:106:9
 late-round-requires-2 : tie.Need-late-round-requires-2
 late-round-requires-2 c κs = (omega arith, (omega arith, c .before .before .before .pre .1 .1))
 
--- src/round.rt:107:29
 add-late-round-2 : tie.Need-add-late-round-2
 add-late-round-2 c = search needs
 
--- src/round.rt:107:9
 late-round-requires-3 : tie.Need-late-round-requires-3
 late-round-requires-3 c κs = (omega arith, (omega arith, c .before .before .before .before .pre .1 .1))
 
--- src/round.rt:108:20
 add-late-round-3 : tie.Need-add-late-round-3
 add-late-round-3 c = search needs
 
--- src/round.rt:108:5
 late-round-requires-4 : tie.Need-late-round-requires-4
 late-round-requires-4 c κs = (omega arith, (omega arith, c .before .before .before .before .before .pre .1 .1))
 
--- src/round.rt:98:1
 returns : tie.Need-returns
 returns c = cc
 

@@ -1,9 +1,7 @@
-use Prim.Native.Nat.{_≤_, _<_, _-_, _^_}
-use mathlib.Core.Path.{_≡_}
+use Prim.Native.Nat.{_≤_, _-_}
+use mathlib.Core.Path.{_≡_, sym, _∙_}
 use lib.ListN.{length, length-set}
 use borrow.Author.Needs.{needs}
-use native.Mathlib.Omega.{arith}
-use mathlib.Core.Path.{sym, _∙_}
 use Rattle.words.specs.BytesLaws.{putBe-last, putBe-none}
 use Rattle.words.specs.Bytes.{putBe}
 use Rattle.words.proofs.bytes.put_be.Statement.{statement}

@@ -1,9 +1,8 @@
-use Prim.Native.Nat.{_≤_, _<_, _-_, _^_}
+use Prim.Native.Nat.{_≤_, _-_}
 use mathlib.Core.Path.{_≡_, sym, _∙_}
 use mathlib.Core.Bool.{_&&_}
 use lib.ListN.{length, drop}
 use borrow.Author.Needs.{needs}
-use native.Mathlib.Omega.{arith}
 use Rattle.words.specs.Lists.{sameBytes}
 use Rattle.words.specs.ListsLaws.{same-lengths, same-more, same-end}
 use Rattle.words.proofs.bytes.same.Statement.{statement}

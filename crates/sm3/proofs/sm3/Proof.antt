@@ -1,0 +1,65 @@
+use borrow.Author.Needs.{needs}
+use mathlib.Core.Path.{_∙_}
+use native.Mathlib.Omega.{arith}
+use Prim.Native.Nat.{_*_, _-_}
+use lib.ListN.{length, replicate}
+use Rattle.sm3.specs.Sm3Laws.{last-blocks-fit, sm3-of, answer-hashed, answer-refused}
+use Rattle.sm3.proofs.sm3.Statement.{statement}
+use Rattle.sm3.proofs.sm3.Tie as tie
+
+returns : tie.Need-returns
+returns c = answer-refused (c .before .before .args .message .now) (omega arith)
+
+constants-requires : tie.Need-constants-requires
+constants-requires c κs = search needs
+
+last-blocks-requires : tie.Need-last-blocks-requires
+last-blocks-requires c κs = search needs
+
+end-requires : tie.Need-end-requires
+end-requires c κs = search needs
+
+start-requires : tie.Need-start-requires
+start-requires c κs = search needs
+
+slice-aggregate-iterate : tie.Need-slice-aggregate-iterate
+slice-aggregate-iterate c = search needs
+
+iterate-requires : tie.Need-iterate-requires
+iterate-requires c κs = search needs
+
+slice-aggregate-iterate-2 : tie.Need-slice-aggregate-iterate-2
+slice-aggregate-iterate-2 c = search needs
+
+slice-aggregate-iterate-3 : tie.Need-slice-aggregate-iterate-3
+slice-aggregate-iterate-3 c = search needs
+
+iterate-requires-2 : tie.Need-iterate-requires-2
+iterate-requires-2 c κs = let room = rw (← c .before .before .before .before .before .before .last-blocks .ensures) at (last-blocks-fit (length (c .before .before .before .before .before .before .before .before .before .before .args .message .now))) in (omega (arith, c .before .before .before .before .before .end .ensures .0), c .before .before .before .before .before .before .before .constants .ensures)
+
+digest-requires : tie.Need-digest-requires
+digest-requires c κs = search needs
+
+returns-2 : tie.Need-returns-2
+returns-2 c = answer-hashed (c .before .before .before .before .before .before .before .before .before .before .before .before .args .message .now) (omega arith)
+    (c .digest .ensures
+    ∙ sm3-of (c .before .before .before .before .before .before .before .before .before .before .before .before .args .message .now) (replicate (128 - 64 * c .before .before .before .before .before .before .before .before .last-blocks .result) 0) (c .before .before .before .before .before .before .before .before .last-blocks .result) (c .before .before .before .before .before .before .before .before .last-blocks .ensures) (c .before .before .before .before .before .before .before .end .ensures .1)
+    (c .before .before .before .before .iterate .ensures ∙ rw (c .before .before .before .before .before .before .start .ensures))
+    (c .before .iterate2 .ensures))
+
+pub sm3-spec : {M : Type 1} → statement M
+sm3-spec =
+    tie.close
+    (tie.spec
+    returns
+    constants-requires
+    last-blocks-requires
+    end-requires
+    start-requires
+    slice-aggregate-iterate
+    iterate-requires
+    slice-aggregate-iterate-2
+    slice-aggregate-iterate-3
+    iterate-requires-2
+    digest-requires
+    returns-2)

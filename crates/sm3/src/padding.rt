@@ -1,0 +1,33 @@
+// The end of the padded message (5.2): what follows the message's whole blocks.
+use bytes::copy;
+use words::bytes::put_be;
+ghost use mathlib.Core.Path.{_≡_};
+ghost use mathlib.Core.List.{_++_};
+ghost use Prim.Native.Nat.{_*_, _-_, _/_, _<_, _^_};
+ghost use lib.ListN.{length, drop, replicate};
+ghost use Rattle.sm3.specs.Sm3.{padded};
+ghost use Rattle.sm3.specs.Sm3Laws.{lastBlocks};
+
+// How many blocks follow the whole ones: two where the length has no room in one.
+pub(crate) fn last_blocks(len: usize) -> usize
+    ensures { λ r. ⌜ r ≡ lastBlocks len ⌝ }
+{
+    if len % 64 < 56 { 1 } else { 2 }
+}
+
+// The last blocks, of which the buffer has room for two.
+pub(crate) fn end(message: &[u8], blocks: usize) -> [u8; 128]
+    requires { ⌜ length (now message) < 2 ^ 32 ⌝ }
+    requires { ⌜ blocks ≡ lastBlocks (length (now message)) ⌝ }
+    ensures { λ r. ⌜ length r ≡ 128 ⌝ }
+    ensures { λ r. ⌜ r ≡ drop (64 * (length (now (message .entry)) / 64)) (padded (now (message .entry))) ++ replicate (128 - 64 * blocks) 0 ⌝ }
+{
+    let len = message.len();
+    let whole = len / 64 * 64;
+    let rest = len - whole;
+    let mut out = [0u8; 128];
+    copy(&message[whole..], &mut out);
+    out[rest] = 0x80;
+    put_be(&mut out, 64 * blocks - 8, 8, 8 * len as u64);
+    out
+}
