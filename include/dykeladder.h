@@ -1,0 +1,93 @@
+/*
+ * Dykeladder: the hash SM3 (GB/T 32905-2016) and the cipher SM4
+ * (GB/T 32907-2016) of the release-signing token desk.
+ *
+ * Every buffer is lent as a pointer and a length in elements, and every call
+ * returns one code. DL_DONE: the result is written and every byte past it is
+ * as it was. DL_BAD_ARGUMENT: a length is out of range and nothing is
+ * written. There is no length that the caller has to filter beforehand.
+ *
+ * The pointers are the caller's part: each must point to as many elements as
+ * its length says and must not be null, not even for a length of 0; a buffer
+ * that is written must not overlap another argument.
+ *
+ * No call allocates, keeps anything between calls, or reads more than its
+ * arguments: any number of threads may call at once.
+ */
+#ifndef DYKELADDER_H
+#define DYKELADDER_H
+
+#include <stddef.h>
+#include <stdint.h>
+
+#ifdef __cplusplus
+extern "C" {
+#endif
+
+/* Codes. */
+#define DL_DONE         0x0000 /* the result is written */
+#define DL_BAD_ARGUMENT 0x9005 /* a length is out of range; nothing is written */
+
+/* Lengths. */
+#define DL_SM3_DIGEST_BYTES 32
+#define DL_SM4_KEY_BYTES    16
+#define DL_SM4_BLOCK_BYTES  16
+#define DL_SM4_ROUND_KEYS   32 /* words of 32 bits */
+
+/*
+ * The SM3 hash of a message.
+ *
+ *   message  any bytes; message_len is 0 to 2^32 - 1
+ *   digest   takes the hash in its first 32 bytes; digest_len is 32 or more
+ *
+ * Returns DL_DONE or DL_BAD_ARGUMENT.
+ */
+uint16_t dl_sm3(const uint8_t *message, size_t message_len,
+                uint8_t *digest, size_t digest_len);
+
+/*
+ * One block encrypted by SM4, its round keys made for this block alone.
+ *
+ *   key    key_len is 16
+ *   block  block_len is 16
+ *   out    takes the encrypted block in its first 16 bytes; out_len is 16 or
+ *          more
+ *
+ * Returns DL_DONE or DL_BAD_ARGUMENT.
+ */
+uint16_t dl_sm4(const uint8_t *key, size_t key_len,
+                const uint8_t *block, size_t block_len,
+                uint8_t *out, size_t out_len);
+
+/*
+ * The round keys of an SM4 key, for dl_sm4_encrypt. They are as secret as the
+ * key: wipe them after use.
+ *
+ *   key   key_len is 16
+ *   keys  takes the round keys in its first 32 words; keys_len is 32 or more
+ *
+ * Returns DL_DONE or DL_BAD_ARGUMENT.
+ */
+uint16_t dl_sm4_keys(const uint8_t *key, size_t key_len,
+                     uint32_t *keys, size_t keys_len);
+
+/*
+ * One block encrypted by SM4 under round keys that dl_sm4_keys made.
+ *
+ *   keys   the round keys in their order; keys_len is 32, neither less nor
+ *          more
+ *   block  block_len is 16
+ *   out    takes the encrypted block in its first 16 bytes; out_len is 16 or
+ *          more
+ *
+ * Returns DL_DONE or DL_BAD_ARGUMENT.
+ */
+uint16_t dl_sm4_encrypt(const uint32_t *keys, size_t keys_len,
+                        const uint8_t *block, size_t block_len,
+                        uint8_t *out, size_t out_len);
+
+#ifdef __cplusplus
+}
+#endif
+
+#endif
