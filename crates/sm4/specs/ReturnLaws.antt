@@ -1,8 +1,8 @@
 -- What each function of the code returns, over what the functions that it calls ensure.
-use Prim.Native.Nat.{ℕ, zero, suc, _+_, _*_, _-_, _/_, _%_, _^_, _≤_, _<_}
-use mathlib.Core.Path.{_≡_, refl, sym, ap, ap₂, _∙_}
-use mathlib.Core.Bool.{Bool, true, false, cond, _&&_}
-use mathlib.Core.List.{List, [], _∷_, _++_, append-nil}
+use Prim.Native.Nat.{ℕ, suc, _+_, _*_, _-_, _/_, _%_, _^_, _≤_, _<_}
+use mathlib.Core.Path.{_≡_, refl, sym, ap, _∙_}
+use mathlib.Core.Bool.{Bool, true, false}
+use mathlib.Core.List.{List, _++_, append-nil}
 use native.Mathlib.Nat.{add-zero, mod-eq-of-lt}
 use native.Mathlib.Numerals.{add-one}
 use native.Mathlib.Omega.{arith}
@@ -19,6 +19,12 @@ use Rattle.sm4.specs.declared.round.Quad.{Quad}
 use Rattle.sm4.specs.declared.schedule.Keys.{Keys}
 use Rattle.sm4.specs.declared.encryption.Cipher.{Cipher}
 
+-- ---- tables
+
+-- a place of the table is one of the slice that lends it
+pub in-table : {t u : List ℕ} (n i : ℕ) → t ≡ u → length u ≡ n → i < n → i < length t
+in-table n i e l h = rw (e, l) h
+
 -- ---- rounds
 
 -- the four bytes of tau, summed in two halves
@@ -32,10 +38,10 @@ tau-sum x h ea eb ec ed =
 
 -- four steps by four new words
 module _ (lin : ℕ → ℕ) (ks : List ℕ) (i : ℕ) (q : Quad) {a b c d : ℕ}
-  (first : a ≡ round lin (q .a) (q .b) (q .c) (q .d) (getD ks i 0))
-  (second : b ≡ round lin (q .b) (q .c) (q .d) a (getD ks (i + 1) 0))
-  (third : c ≡ round lin (q .c) (q .d) a b (getD ks (i + 2) 0))
-  (fourth : d ≡ round lin (q .d) a b c (getD ks (i + 3) 0)) where
+    (first : a ≡ round lin (q .a) (q .b) (q .c) (q .d) (getD ks i 0))
+    (second : b ≡ round lin (q .b) (q .c) (q .d) a (getD ks (i + 1) 0))
+    (third : c ≡ round lin (q .c) (q .d) a b (getD ks (i + 2) 0))
+    (fourth : d ≡ round lin (q .d) a b c (getD ks (i + 3) 0)) where
   pub four-steps : _≡_ {A = Quad} (record { a = a; b = b; c = c; d = d }) (steps lin (drop i ks) 4 q)
   unfolding steps step
   four-steps = simp (getD-drop, add-zero) (rw (← first, ← second, ← third, ← fourth))
@@ -75,9 +81,14 @@ module _ (key : List ℕ) where
 -- ---- encryption
 
 -- the words stored one after the other
-pub reversed-stored : (q : Quad) → putBe 4 (putBe 4 (putBe 4 (putBe 4 (replicate 16 0) 0 (q .d)) 4 (q .c)) 8 (q .b)) 12 (q .a) ≡ reversed q
-unfolding reversed putBe beBytes
-reversed-stored q = refl
+stored : (a b c d : ℕ) → putBe 4 (putBe 4 (putBe 4 (putBe 4 (replicate 16 0) 0 d) 4 c) 8 b) 12 a ≡ beBytes 4 d ++ (beBytes 4 c ++ (beBytes 4 b ++ beBytes 4 a))
+unfolding putBe beBytes
+stored a b c d = refl
+
+pub reversed-stored : (q : Quad) {s t u v : List ℕ}
+    → s ≡ putBe 4 (replicate 16 0) 0 (q .d) → t ≡ putBe 4 s 4 (q .c) → u ≡ putBe 4 t 8 (q .b) → v ≡ putBe 4 u 12 (q .a) → v ≡ reversed q
+unfolding reversed
+reversed-stored q es et eu ev = ev ∙ rw (eu, et, es) (stored (q .a) (q .b) (q .c) (q .d))
 
 module _ (ks block : List ℕ) where
   pub encrypt-refused-keys : (length ks ≡ 32 → ⊥) → cipherRefused ≡ encryptAnswer ks block

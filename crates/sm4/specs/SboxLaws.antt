@@ -4,11 +4,11 @@ use mathlib.Core.Path.{_≡_, refl, sym, ap, _∙_}
 use mathlib.Core.Bool.{Bool, true, _&&_}
 use borrow.Author.Tests.{ltb-true, eqb-true}
 use lib.Dec.{ltb, eqb}
-use lib.ListN.{length, getD}
+use lib.ListN.{length}
 use Rattle.words.specs.Tables.{every, entry-rule, and-left, and-right}
 use Rattle.sm4.specs.Sbox.{sbox, substitute, placeIn, place, HeldOnce}
 
-sbox-length : length sbox ≡ 256
+pub sbox-length : length sbox ≡ 256
 unfolding sbox
 sbox-length = refl
 

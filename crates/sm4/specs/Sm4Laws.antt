@@ -1,28 +1,23 @@
 -- Laws of SM4: its words stay below 2^32, steps compose, and the round keys are steps.
-use Prim.Native.Nat.{ℕ, zero, suc, _+_, _*_, _-_, _/_, _%_, _^_, _≤_, _<_}
-use mathlib.Core.Path.{_≡_, refl, sym, ap, ap₂, _∙_}
-use mathlib.Core.Bool.{Bool, true, false, cond, _&&_}
-use mathlib.Core.List.{List, [], _∷_, _++_}
-use native.Mathlib.Nat.{add-zero, zero-add, add-suc, suc-add, mod-lt, mod-eq-of-lt, zero-lt-suc, not-suc-le-zero, le-of-suc-le-suc}
-use native.Mathlib.Numerals.{add-one}
+use Prim.Native.Nat.{ℕ, zero, suc, _+_, _*_, _/_, _%_, _^_, _≤_, _<_}
+use mathlib.Core.Path.{_≡_, refl, sym, ap, _∙_}
+use mathlib.Core.Bool.{Bool, true}
+use mathlib.Core.List.{List}
+use native.Mathlib.Nat.{add-zero, zero-add, add-suc, suc-add, mod-lt, zero-lt-suc, not-suc-le-zero, le-of-suc-le-suc}
 use native.Mathlib.Omega.{arith}
-use borrow.Author.Tests.{eqb-true, eq-eqb, ne-eqb}
+use borrow.Author.Tests.{eqb-true}
 use lib.Bits.{xor-lt}
 use lib.Dec.{eqb}
-use lib.ListN.{length, getD, set, take, drop, replicate, List·getD-eq-default}
-use lib.Seq.{getD-drop, take-suc-set, append-snoc}
+use lib.ListN.{length, getD, drop}
+use lib.Seq.{getD-drop}
 use Rattle.words.specs.Words.{_⊕_, _⋘_}
 use Rattle.words.specs.WordsLaws.{rotated-lt}
-use Rattle.words.specs.Bytes.{beAt, beBytes, putBe}
 use Rattle.words.specs.BytesLaws.{AreBytes, beAt-lt}
-use Rattle.words.specs.Codes.{done, badArgument}
 use Rattle.words.specs.Tables.{every, entry-rule}
-use Rattle.sm4.specs.Sbox.{sbox, substitute}
+use Rattle.sm4.specs.Sbox.{substitute}
 use Rattle.sm4.specs.SboxLaws.{sbox-byte}
-use Rattle.sm4.specs.Sm4.{word, tau, linear, linearKey, round, step, steps, wordsOf, reversed, encryptWith, masked, ckByte, ck, cksFrom, cks, keysFrom, roundKeys, sm4Of, keysRefused, keysAnswer, cipherRefused, encryptAnswer, sm4Answer}
+use Rattle.sm4.specs.Sm4.{word, tau, linear, linearKey, round, step, steps, wordsOf, masked, ckByte, ck, cksFrom, cks, keysFrom, roundKeys}
 use Rattle.sm4.specs.declared.round.Quad.{Quad}
-use Rattle.sm4.specs.declared.schedule.Keys.{Keys}
-use Rattle.sm4.specs.declared.encryption.Cipher.{Cipher}
 
 -- ---- words below 2^32
 
@@ -108,7 +103,7 @@ steps-add lin ks i (suc n) q = rw (add-suc, getD-drop, steps-add lin ks i n q)
 
 -- ---- the round keys
 
-cks-length : length cks ≡ 32
+pub cks-length : length cks ≡ 32
 unfolding cks cksFrom
 cks-length = refl
 

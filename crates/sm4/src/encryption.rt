@@ -1,9 +1,12 @@
 // The encryption of a block (GB/T 32907, 7.1).
-use crate::round::{Quad, rounds, words_of};
+use crate::round::Quad;
+use crate::round::rounds;
+use crate::round::words_of;
 use crate::schedule::round_keys;
 use crate::table::sbox;
 use words::bytes::put_be;
-use words::codes::{BAD_ARGUMENT, DONE};
+use words::codes::BAD_ARGUMENT;
+use words::codes::DONE;
 ghost use mathlib.Core.Path.{_≡_};
 ghost use Rattle.sm4.specs.Sm4.{reversed, encryptAnswer, sm4Answer};
 

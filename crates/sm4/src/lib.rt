@@ -3,5 +3,9 @@ pub mod encryption;
 pub mod round;
 pub mod schedule;
 pub mod table;
-pub use encryption::{Cipher, encrypt, sm4};
-pub use schedule::{Keys, round_keys};
+
+pub use encryption::Cipher;
+pub use encryption::encrypt;
+pub use encryption::sm4;
+pub use schedule::Keys;
+pub use schedule::round_keys;

@@ -1,7 +1,11 @@
 // The key schedule (GB/T 32907, 7.3).
-use crate::round::{Quad, key_step, words_of};
-use crate::table::{constants, sbox};
-use words::codes::{BAD_ARGUMENT, DONE};
+use crate::round::Quad;
+use crate::round::key_step;
+use crate::round::words_of;
+use crate::table::constants;
+use crate::table::sbox;
+use words::codes::BAD_ARGUMENT;
+use words::codes::DONE;
 ghost use mathlib.Core.Path.{_≡_};
 ghost use Rattle.sm4.specs.Sbox.{sbox};
 ghost use Rattle.sm4.specs.Sm4.{cks, masked, keysFrom, keysAnswer};

@@ -1,44 +1,34 @@
+use Rattle.sm4.specs.Sm4.{cipherRefused}
+use Rattle.sm4.specs.ReturnLaws.{encrypt-refused-keys, encrypt-refused-block, encrypt-done}
 use borrow.Author.Needs.{needs}
 use Rattle.sm4.proofs.encryption.encrypt.Statement.{statement}
 use Rattle.sm4.proofs.encryption.encrypt.Tie as tie
-use Rattle.sm4.proofs.encryption.encrypt.Reads as reads
-use Rattle.sm4.proofs.encryption.encrypt.Lts as lts
-use Rattle.sm4.proofs.encryption.reversed.Reads as reversed-reads
-use Rattle.sm4.proofs.round.rounds.Reads as rounds-reads
-use Rattle.sm4.proofs.round.words_of.Reads as words-of-reads
-use Rattle.sm4.proofs.table.sbox.Reads as sbox-reads
 
--- src/encryption.rt:33:9
 returns : tie.Need-returns
-returns c = ?
+unfolding cipherRefused
+returns c = encrypt-refused-keys (c .before .before .before .args .keys .now) (c .before .before .before .args .block .now) (c .if1 .taken)
 
--- src/encryption.rt:39:9
 returns-2 : tie.Need-returns-2
-returns-2 c = ?
+unfolding cipherRefused
+returns-2 c = encrypt-refused-block (c .before .before .before .before .args .keys .now) (c .before .before .before .before .args .block .now) (c .before .if1 .left) (c .if2 .taken)
 
--- src/encryption.rt:44:17
 sbox-requires : tie.Need-sbox-requires
 sbox-requires c κs = search needs
 
--- src/encryption.rt:45:31
 slice-aggregate-rounds : tie.Need-slice-aggregate-rounds
 slice-aggregate-rounds c = search needs
 
--- src/encryption.rt:45:45
 words-of-requires : tie.Need-words-of-requires
 words-of-requires c κs = search needs
 
--- src/encryption.rt:45:24
 rounds-requires : tie.Need-rounds-requires
 rounds-requires c κs = search needs
 
--- src/encryption.rt:45:9
 reversed-requires : tie.Need-reversed-requires
 reversed-requires c κs = search needs
 
--- src/encryption.rt:29:1
 returns-3 : tie.Need-returns-3
-returns-3 c = ?
+returns-3 c = encrypt-done (c .before .before .before .before .before .before .before .before .before .args .keys .now) (c .before .before .before .before .before .before .before .before .before .args .block .now) (c .before .before .before .before .before .before .if1 .left) (c .before .before .before .before .before .if2 .left) (c .before .before .words-of .ensures) (c .before .rounds .ensures) (c .reversed .ensures)
 
 pub encrypt-spec : {M : Type 1} → statement M
 encrypt-spec =

@@ -1,38 +1,36 @@
+use Prim.Native.Nat.{_≤_, _-_, _%_}
+use mathlib.Core.Path.{_≡_}
+use borrow.Author.Needs.{needs}
+use native.Mathlib.Omega.{arith}
+use Rattle.sm4.specs.Sm4.{linear, steps}
+use Rattle.sm4.specs.ReturnLaws.{rounds-more}
 use Rattle.sm4.proofs.round.rounds.Statement.{statement}
 use Rattle.sm4.proofs.round.rounds.Tie as tie
-use Rattle.sm4.proofs.round.rounds.Reads as reads
-use Rattle.sm4.proofs.round.rounds.Lts as lts
-use Rattle.sm4.proofs.round.four_rounds.Reads as four-rounds-reads
 
 abbrev Inv-loop : tie.InvT-loop
-Inv-loop table keys s₀ i₀ s i = ?
+Inv-loop table keys s₀ i₀ s i = (i ≤ 32) × ((i % 4 ≡ 0) × (s ≡ steps linear keys i s₀))
 
 abbrev μ-loop : tie.MeasureT-loop
-μ-loop table keys s₀ i₀ s i = ?
+μ-loop table keys s₀ i₀ s i = 32 - i
 
--- src/round.rt:99:5
 loop-holds : tie.Need-loop-holds Inv-loop μ-loop
-loop-holds c = ?
+unfolding steps
+loop-holds c = search needs
 
--- src/round.rt:100:9
 four-rounds-requires : tie.Need-four-rounds-requires Inv-loop μ-loop
-four-rounds-requires c κs = ?
+four-rounds-requires c κs = search needs
 
--- src/round.rt:101:9
 add-i : tie.Need-add-i Inv-loop μ-loop
-add-i c = ?
+add-i c = search needs
 
--- src/round.rt:99:5
 loop-less : tie.Need-loop-less Inv-loop μ-loop
-loop-less c = ?
+loop-less c = search needs
 
--- src/round.rt:99:5
 loop-again : tie.Need-loop-again Inv-loop μ-loop
-loop-again c = ?
+loop-again c = (search needs, (omega arith, rounds-more (c .before .before .before .before .before .args .keys .now) (c .before .before .loop .i) (c .before .before .before .before .before .args .q) (c .before .before .loop .inv .1 .1) (c .four-rounds .ensures)))
 
--- src/round.rt:92:1
 returns : tie.Need-returns Inv-loop μ-loop
-returns c = ?
+returns c = let e : c .before .loop .i ≡ 32 = omega arith in rw e at (c .before .loop .inv .1 .1)
 
 pub rounds-spec : {M : Type 1} → statement M
 rounds-spec =

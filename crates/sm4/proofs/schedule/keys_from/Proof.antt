@@ -1,54 +1,50 @@
+use Prim.Native.Nat.{_≤_, _-_}
+use mathlib.Core.Path.{_≡_, sym, _∙_}
+use mathlib.Core.List.{_++_}
+use borrow.Author.Needs.{needs}
+use native.Mathlib.Omega.{arith}
+use lib.ListN.{length, take, length-set}
+use Rattle.sm4.specs.Sm4.{keysFrom}
+use Rattle.sm4.specs.Sm4Laws.{cks-length}
+use Rattle.sm4.specs.ReturnLaws.{in-table, keys-more, keys-end}
 use Rattle.sm4.proofs.schedule.keys_from.Statement.{statement}
 use Rattle.sm4.proofs.schedule.keys_from.Tie as tie
-use Rattle.sm4.proofs.schedule.keys_from.Reads as reads
-use Rattle.sm4.proofs.schedule.keys_from.Lts as lts
-use Rattle.sm4.proofs.round.key_step.Reads as key-step-reads
 
 abbrev Inv-loop : tie.InvT-loop
-Inv-loop table parameters words₀ s₀ i₀ words s i = ?
+Inv-loop table parameters words₀ s₀ i₀ words s i = (i ≤ 32) × ((length words ≡ 32) × (take i words ++ keysFrom (32 - i) i s ≡ keysFrom 32 0 s₀))
 
 abbrev μ-loop : tie.MeasureT-loop
-μ-loop table parameters words₀ s₀ i₀ words s i = ?
+μ-loop table parameters words₀ s₀ i₀ words s i = 32 - i
 
--- src/schedule.rt:36:5
 loop-holds : tie.Need-loop-holds Inv-loop μ-loop
-loop-holds c = ?
+loop-holds c = search needs
 
--- src/schedule.rt:37:32
 mul-key-step : tie.Need-mul-key-step Inv-loop μ-loop
-mul-key-step c = ?
+mul-key-step c = search needs
 
--- src/schedule.rt:37:32
 shared-slice-read-key-step : tie.Need-shared-slice-read-key-step Inv-loop μ-loop
-shared-slice-read-key-step c = ?
+shared-slice-read-key-step c = in-table 32 (c .before .before .loop .i) (c .before .before .before .before .before .pre .1) cks-length (c .before .loop-test .taken)
 
--- src/schedule.rt:37:9
 key-step-requires : tie.Need-key-step-requires Inv-loop μ-loop
-key-step-requires c κs = ?
+key-step-requires c κs = search needs
 
--- src/schedule.rt:38:9
 mul-words : tie.Need-mul-words Inv-loop μ-loop
-mul-words c = ?
+mul-words c = search needs
 
--- src/schedule.rt:38:9
 array-write-words : tie.Need-array-write-words Inv-loop μ-loop
-array-write-words c = ?
+array-write-words c = search needs
 
--- src/schedule.rt:39:9
 add-i : tie.Need-add-i Inv-loop μ-loop
-add-i c = ?
+add-i c = search needs
 
--- src/schedule.rt:36:5
 loop-less : tie.Need-loop-less Inv-loop μ-loop
-loop-less c = ?
+loop-less c = search needs
 
--- src/schedule.rt:36:5
 loop-again : tie.Need-loop-again Inv-loop μ-loop
-loop-again c = ?
+loop-again c = (search needs, (rw length-set (c .before .before .before .loop .inv .1 .0), keys-more (c .before .before .before .before .before .before .args .parameters .now) (c .before .before .before .loop .words) (c .before .before .before .loop .i) (c .before .before .before .loop .s) (c .before .before .before .before .before .before .pre .1) (c .before .before .before .loop .inv .1 .0) (c .before .before .loop-test .taken) (c .key-step .ensures) ∙ c .before .before .before .loop .inv .1 .1))
 
--- src/schedule.rt:28:1
 returns : tie.Need-returns Inv-loop μ-loop
-returns c = ?
+returns c = sym (keys-end (c .before .loop .words) (c .before .loop .i) (c .before .loop .s) (c .before .loop .inv .1 .0) (omega arith)) ∙ c .before .loop .inv .1 .1
 
 pub keys-from-spec : {M : Type 1} → statement M
 keys-from-spec =
