@@ -107,16 +107,16 @@ module _ (ks block : List ℕ) where
 -- ---- both
 
 module _ (key block : List ℕ) {k : Keys} (made : k ≡ keysAnswer key) where
-  refused-by : (right : Bool) → eqb (length key) 16 ≡ right → (k .code ≡ done → ⊥) → _≡_ {A = Cipher} (record { code = k .code; block = replicate 16 0 }) (sm4Answer key block)
-  unfolding keysAnswer keysRefused sm4Answer cipherRefused
+  refused-by : (right : Bool) → eqb (length key) 16 ≡ right → (k .code ≡ done → ⊥) → cipherRefused ≡ sm4Answer key block
+  unfolding keysAnswer sm4Answer
   refused-by true e n = absurd (n (ap (λ (x : Keys). x .code) made ∙ rw e))
-  refused-by false e n = let f : k .code ≡ badArgument = ap (λ (x : Keys). x .code) made ∙ rw e in rw (e, f)
+  refused-by false e n = rw e
 
-  pub sm4-refused : (k .code ≡ done → ⊥) → _≡_ {A = Cipher} (record { code = k .code; block = replicate 16 0 }) (sm4Answer key block)
+  pub sm4-refused : (k .code ≡ done → ⊥) → cipherRefused ≡ sm4Answer key block
   sm4-refused n = refused-by (eqb (length key) 16) refl n
 
   done-by : (right : Bool) → eqb (length key) 16 ≡ right → k .code ≡ done → encryptAnswer (k .words) block ≡ sm4Answer key block
-  unfolding keysAnswer keysRefused encryptAnswer sm4Answer sm4Of
+  unfolding keysAnswer encryptAnswer sm4Answer sm4Of
   done-by true e d = let f : k .words ≡ roundKeys key = ap (λ (x : Keys). x .words) made ∙ rw e in rw (e, f, length-roundKeys key)
   done-by false e d = let f : k .code ≡ badArgument = ap (λ (x : Keys). x .code) made ∙ rw e in absurd (omega arith)
 

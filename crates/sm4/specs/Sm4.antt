@@ -93,13 +93,13 @@ sm4Of key block = encryptWith (roundKeys key) block
 
 -- ---- what the functions answer: a length other than the standard's is a bad argument, and the array is then all zeros
 
-unfoldable pub keysRefused : Keys
+abbrev pub keysRefused : Keys
 keysRefused = record { code = badArgument; words = replicate 32 0 }
 
 unfoldable pub keysAnswer : List ℕ → Keys
 keysAnswer key = cond (eqb (length key) 16) (record { code = done; words = roundKeys key }) keysRefused
 
-unfoldable pub cipherRefused : Cipher
+abbrev pub cipherRefused : Cipher
 cipherRefused = record { code = badArgument; block = replicate 16 0 }
 
 unfoldable pub encryptAnswer : List ℕ → List ℕ → Cipher

@@ -8,12 +8,22 @@ use words::bytes::put_be;
 use words::codes::BAD_ARGUMENT;
 use words::codes::DONE;
 ghost use mathlib.Core.Path.{_≡_};
-ghost use Rattle.sm4.specs.Sm4.{reversed, encryptAnswer, sm4Answer};
+ghost use Rattle.sm4.specs.Sm4.{reversed, cipherRefused, encryptAnswer, sm4Answer};
 
 // The encrypted block, or the code that refuses the arguments, with all bytes zero.
 pub struct Cipher {
     pub code: u16,
     pub block: [u8; 16],
+}
+
+// The answer to a length other than the standard's.
+fn refused() -> Cipher
+    ensures { λ r. ⌜ r ≡ cipherRefused ⌝ }
+{
+    Cipher {
+        code: BAD_ARGUMENT,
+        block: [0u8; 16],
+    }
 }
 
 // The reverse transformation R: the last word first.
@@ -33,16 +43,10 @@ pub fn encrypt(keys: &[u32], block: &[u8]) -> Cipher
     ensures { λ r. ⌜ r ≡ encryptAnswer (now (keys .entry)) (now (block .entry)) ⌝ }
 {
     if keys.len() != 32 {
-        return Cipher {
-            code: BAD_ARGUMENT,
-            block: [0u8; 16],
-        };
+        return refused();
     }
     if block.len() != 16 {
-        return Cipher {
-            code: BAD_ARGUMENT,
-            block: [0u8; 16],
-        };
+        return refused();
     }
     let table = sbox();
     let out = reversed(rounds(&table, keys, words_of(block)));
@@ -58,10 +62,7 @@ pub fn sm4(key: &[u8], block: &[u8]) -> Cipher
 {
     let keys = round_keys(key);
     if keys.code != DONE {
-        return Cipher {
-            code: keys.code,
-            block: [0u8; 16],
-        };
+        return refused();
     }
     let words = keys.words;
     encrypt(&words, block)

@@ -1,8 +1,8 @@
 // The block cipher SM4 (GB/T 32907): round keys from a key, and the encryption of a block.
-pub mod encryption;
-pub mod round;
-pub mod schedule;
-pub mod table;
+mod encryption;
+mod round;
+mod schedule;
+mod table;
 
 pub use encryption::Cipher;
 pub use encryption::encrypt;

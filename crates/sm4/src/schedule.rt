@@ -29,16 +29,16 @@ fn masked(q: Quad) -> Quad
 }
 
 // The 32 round keys: the last word after each step.
-fn keys_from(table: &[u8], parameters: &[u32], q: Quad) -> [u32; 32]
+fn keys_from(table: &[u8], ck: &[u32], q: Quad) -> [u32; 32]
     requires { ⌜ now table ≡ sbox ⌝ }
-    requires { ⌜ now parameters ≡ cks ⌝ }
+    requires { ⌜ now ck ≡ cks ⌝ }
     ensures { λ r. ⌜ r ≡ keysFrom 32 0 q ⌝ }
 {
     let mut words = [0u32; 32];
     let mut s = q;
     let mut i = 0;
     while i < 32 {
-        s = key_step(table, s, parameters[i]);
+        s = key_step(table, s, ck[i]);
         words[i] = s.d;
         i += 1;
     }
@@ -56,7 +56,7 @@ pub fn round_keys(key: &[u8]) -> Keys
         };
     }
     let table = sbox();
-    let parameters = constants();
-    let words = keys_from(&table, &parameters, masked(words_of(key)));
+    let ck = constants();
+    let words = keys_from(&table, &ck, masked(words_of(key)));
     Keys { code: DONE, words }
 }

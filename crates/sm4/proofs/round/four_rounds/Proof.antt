@@ -1,6 +1,6 @@
+use borrow.Author.Needs.{needs}
 use Rattle.sm4.specs.Sm4.{linear}
 use Rattle.sm4.specs.ReturnLaws.{four-steps}
-use borrow.Author.Needs.{needs}
 use Rattle.sm4.proofs.round.four_rounds.Statement.{statement}
 use Rattle.sm4.proofs.round.four_rounds.Tie as tie
 
@@ -50,7 +50,8 @@ round-requires-4 : tie.Need-round-requires-4
 round-requires-4 c κs = search needs
 
 returns : tie.Need-returns
-returns c = four-steps linear (c .before .before .before .before .before .before .before .before .before .before .args .keys .now) (c .before .before .before .before .before .before .before .before .before .before .args .i) (c .before .before .before .before .before .before .before .before .before .before .args .q) (c .before .before .before .before .before .before .round .ensures) (c .before .before .before .before .round2 .ensures) (c .before .before .round3 .ensures) (c .round4 .ensures)
+returns c = let a = c .before .before .before .before .before .before .before .before .before .before .args in
+    four-steps linear (a .keys .now) (a .i) (a .q) (c .before .before .before .before .before .before .round .ensures) (c .before .before .before .before .round2 .ensures) (c .before .before .round3 .ensures) (c .round4 .ensures)
 
 pub four-rounds-spec : {M : Type 1} → statement M
 four-rounds-spec =

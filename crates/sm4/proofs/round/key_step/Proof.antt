@@ -1,5 +1,5 @@
-use Rattle.sm4.specs.Sm4.{step, round}
 use borrow.Author.Needs.{needs}
+use Rattle.sm4.specs.Sm4.{step, round}
 use Rattle.sm4.proofs.round.key_step.Statement.{statement}
 use Rattle.sm4.proofs.round.key_step.Tie as tie
 

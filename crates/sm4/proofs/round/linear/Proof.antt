@@ -1,5 +1,5 @@
-use Rattle.sm4.specs.Sm4.{linear}
 use borrow.Author.Needs.{needs}
+use Rattle.sm4.specs.Sm4.{linear}
 use Rattle.sm4.proofs.round.linear.Statement.{statement}
 use Rattle.sm4.proofs.round.linear.Tie as tie
 

@@ -1,5 +1,5 @@
-use Rattle.sm4.specs.Sm4.{linearKey}
 use borrow.Author.Needs.{needs}
+use Rattle.sm4.specs.Sm4.{linearKey}
 use Rattle.sm4.proofs.round.linear_key.Statement.{statement}
 use Rattle.sm4.proofs.round.linear_key.Tie as tie
 

@@ -1,5 +1,5 @@
-use Rattle.sm4.specs.Sm4.{round}
 use borrow.Author.Needs.{needs}
+use Rattle.sm4.specs.Sm4.{round}
 use Rattle.sm4.proofs.round.round.Statement.{statement}
 use Rattle.sm4.proofs.round.round.Tie as tie
 

@@ -1,7 +1,7 @@
 use Prim.Native.Nat.{_≤_, _-_, _%_}
 use mathlib.Core.Path.{_≡_}
-use borrow.Author.Needs.{needs}
 use native.Mathlib.Omega.{arith}
+use borrow.Author.Needs.{needs}
 use Rattle.sm4.specs.Sm4.{linear, steps}
 use Rattle.sm4.specs.ReturnLaws.{rounds-more}
 use Rattle.sm4.proofs.round.rounds.Statement.{statement}
@@ -27,7 +27,8 @@ loop-less : tie.Need-loop-less Inv-loop μ-loop
 loop-less c = search needs
 
 loop-again : tie.Need-loop-again Inv-loop μ-loop
-loop-again c = (search needs, (omega arith, rounds-more (c .before .before .before .before .before .args .keys .now) (c .before .before .loop .i) (c .before .before .before .before .before .args .q) (c .before .before .loop .inv .1 .1) (c .four-rounds .ensures)))
+loop-again c = let l = c .before .before .loop in
+    (search needs, (omega arith, rounds-more (c .before .before .before .before .before .args .keys .now) (l .i) (c .before .before .before .before .before .args .q) (l .inv .1 .1) (c .four-rounds .ensures)))
 
 returns : tie.Need-returns Inv-loop μ-loop
 returns c = let e : c .before .loop .i ≡ 32 = omega arith in rw e at (c .before .loop .inv .1 .1)

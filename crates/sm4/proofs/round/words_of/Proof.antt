@@ -1,5 +1,5 @@
-use Rattle.sm4.specs.Sm4.{wordsOf}
 use borrow.Author.Needs.{needs}
+use Rattle.sm4.specs.Sm4.{wordsOf}
 use Rattle.sm4.proofs.round.words_of.Statement.{statement}
 use Rattle.sm4.proofs.round.words_of.Tie as tie
 

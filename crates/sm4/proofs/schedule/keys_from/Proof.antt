@@ -1,8 +1,8 @@
 use Prim.Native.Nat.{_≤_, _-_}
 use mathlib.Core.Path.{_≡_, sym, _∙_}
 use mathlib.Core.List.{_++_}
-use borrow.Author.Needs.{needs}
 use native.Mathlib.Omega.{arith}
+use borrow.Author.Needs.{needs}
 use lib.ListN.{length, take, length-set}
 use Rattle.sm4.specs.Sm4.{keysFrom}
 use Rattle.sm4.specs.Sm4Laws.{cks-length}
@@ -11,10 +11,10 @@ use Rattle.sm4.proofs.schedule.keys_from.Statement.{statement}
 use Rattle.sm4.proofs.schedule.keys_from.Tie as tie
 
 abbrev Inv-loop : tie.InvT-loop
-Inv-loop table parameters words₀ s₀ i₀ words s i = (i ≤ 32) × ((length words ≡ 32) × (take i words ++ keysFrom (32 - i) i s ≡ keysFrom 32 0 s₀))
+Inv-loop table ck words₀ s₀ i₀ words s i = (i ≤ 32) × ((length words ≡ 32) × (take i words ++ keysFrom (32 - i) i s ≡ keysFrom 32 0 s₀))
 
 abbrev μ-loop : tie.MeasureT-loop
-μ-loop table parameters words₀ s₀ i₀ words s i = 32 - i
+μ-loop table ck words₀ s₀ i₀ words s i = 32 - i
 
 loop-holds : tie.Need-loop-holds Inv-loop μ-loop
 loop-holds c = search needs
@@ -41,10 +41,14 @@ loop-less : tie.Need-loop-less Inv-loop μ-loop
 loop-less c = search needs
 
 loop-again : tie.Need-loop-again Inv-loop μ-loop
-loop-again c = (search needs, (rw length-set (c .before .before .before .loop .inv .1 .0), keys-more (c .before .before .before .before .before .before .args .parameters .now) (c .before .before .before .loop .words) (c .before .before .before .loop .i) (c .before .before .before .loop .s) (c .before .before .before .before .before .before .pre .1) (c .before .before .before .loop .inv .1 .0) (c .before .before .loop-test .taken) (c .key-step .ensures) ∙ c .before .before .before .loop .inv .1 .1))
+loop-again c = let l = c .before .before .before .loop in
+    let stored = l .inv .1 .0 in (
+      search needs,
+      (rw length-set stored, keys-more (c .before .before .before .before .before .before .args .ck .now) (l .words) (l .i) (l .s) (c .before .before .before .before .before .before .pre .1) stored (c .before .before .loop-test .taken) (c .key-step .ensures) ∙ l .inv .1 .1),
+    )
 
 returns : tie.Need-returns Inv-loop μ-loop
-returns c = sym (keys-end (c .before .loop .words) (c .before .loop .i) (c .before .loop .s) (c .before .loop .inv .1 .0) (omega arith)) ∙ c .before .loop .inv .1 .1
+returns c = let l = c .before .loop in sym (keys-end (l .words) (l .i) (l .s) (l .inv .1 .0) (omega arith)) ∙ l .inv .1 .1
 
 pub keys-from-spec : {M : Type 1} → statement M
 keys-from-spec =

@@ -1,11 +1,9 @@
-use Rattle.sm4.specs.Sm4.{keysRefused}
-use Rattle.sm4.specs.ReturnLaws.{keys-refused, keys-done}
 use borrow.Author.Needs.{needs}
+use Rattle.sm4.specs.ReturnLaws.{keys-refused, keys-done}
 use Rattle.sm4.proofs.schedule.round_keys.Statement.{statement}
 use Rattle.sm4.proofs.schedule.round_keys.Tie as tie
 
 returns : tie.Need-returns
-unfolding keysRefused
 returns c = keys-refused (c .before .before .args .key .now) (c .if1 .taken)
 
 sbox-requires : tie.Need-sbox-requires
