@@ -6,7 +6,7 @@ use mathlib.Core.List.{List, [], _∷_}
 use lib.Dec.{eqb}
 use lib.ListN.{getD}
 
--- the table of the nonlinear transformation tau (6.2 a)), as the standard prints it
+-- the table of the nonlinear transformation tau, 6.2 a), as the standard prints it
 unfoldable pub sbox : List ℕ
 sbox =
     0xd6 ∷ 0x90 ∷ 0xe9 ∷ 0xfe ∷ 0xcc ∷ 0xe1 ∷ 0x3d ∷ 0xb7 ∷ 0x16 ∷ 0xb6 ∷ 0x14 ∷ 0xc2 ∷ 0x28 ∷ 0xfb ∷ 0x2c ∷ 0x05 ∷

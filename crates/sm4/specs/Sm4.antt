@@ -55,11 +55,11 @@ encryptWith ks block = reversed (steps linear ks 32 (wordsOf block))
 
 -- ---- 7.3 key schedule
 
--- L'
+-- a): the linear transformation L' of T'
 unfoldable pub linearKey : ℕ → ℕ
 linearKey b = b ⊕ (b ⋘ 13) ⊕ (b ⋘ 23)
 
--- a): K_0 .. K_3, the words of the key with the system parameters FK
+-- K_0 .. K_3: the words of the key with the system parameters FK, b)
 unfoldable pub masked : Quad → Quad
 masked q = record { a = q .a ⊕ 0xa3b1bac6; b = q .b ⊕ 0x56aa3350; c = q .c ⊕ 0x677d9197; d = q .d ⊕ 0xb27022dc }
 
@@ -78,7 +78,7 @@ cksFrom (suc n) i = ck i ∷ cksFrom n (suc i)
 unfoldable pub cks : List ℕ
 cks = cksFrom 32 0
 
--- b): the n round keys from rk_i on; rk_i = K_i+4 is the last word after the step
+-- the n round keys from rk_i on: rk_i = K_i+4 is the last word after the step
 unfoldable pub keysFrom : ℕ → ℕ → Quad → List ℕ
 keysFrom zero i q = []
 keysFrom (suc n) i q = let next = step linearKey (ck i) q in next .d ∷ keysFrom n (suc i) next

@@ -139,7 +139,7 @@ keys-are-steps q (suc n) i (suc j) h l =
     ∙ keys-are-steps q n (suc i) j (omega arith) (le-of-suc-le-suc l)
     ∙ ap (λ (m : ℕ). steps linearKey cks (suc m) q .d) (suc-add i j ∙ sym (add-suc i j))
 
--- rk_i = K_i+4 (7.3 b))
+-- rk_i = K_i+4 (7.3)
 pub round-key-is : (key : List ℕ) (i : ℕ) → i < 32 → getD (roundKeys key) i 0 ≡ steps linearKey cks (suc i) (masked (wordsOf key)) .d
 unfolding roundKeys steps
 round-key-is key i h = keys-are-steps (masked (wordsOf key)) 32 0 i (omega arith) h ∙ ap (λ (m : ℕ). steps linearKey cks (suc m) (masked (wordsOf key)) .d) (zero-add i)

@@ -58,7 +58,7 @@ fn linear(b: u32) -> u32
     b ^ rotate_left(b, 2) ^ rotate_left(b, 10) ^ rotate_left(b, 18) ^ rotate_left(b, 24)
 }
 
-// The linear transformation L' of the key schedule (7.3).
+// The linear transformation L' of the key schedule (7.3 a)).
 fn linear_key(b: u32) -> u32
     ensures { λ r. ⌜ r ≡ linearKey b ⌝ }
 {
@@ -73,7 +73,7 @@ fn round(table: &[u8], a: u32, b: u32, c: u32, d: u32, key: u32) -> u32
     a ^ linear(tau(table, b ^ c ^ d ^ key))
 }
 
-// One step of the key schedule (7.3).
+// One step of the key schedule (7.3 a)).
 pub fn key_step(table: &[u8], q: Quad, constant: u32) -> Quad
     requires { ⌜ now table ≡ sbox ⌝ }
     ensures { λ r. ⌜ r ≡ step linearKey constant q ⌝ }

@@ -16,7 +16,7 @@ pub struct Keys {
     pub words: [u32; 32],
 }
 
-// K_0 .. K_3: the words of a key with the system parameters FK.
+// K_0 .. K_3: the words of a key with the system parameters FK (b)).
 fn masked(q: Quad) -> Quad
     ensures { λ r. ⌜ r ≡ masked q ⌝ }
 {

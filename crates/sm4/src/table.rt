@@ -304,7 +304,7 @@ pub fn sbox() -> [u8; 256]
     SBOX
 }
 
-// The constants CK (7.3).
+// The fixed parameters CK (7.3 c)).
 pub fn constants() -> [u32; 32]
     ensures { λ r. ⌜ r ≡ cks ⌝ }
 {
