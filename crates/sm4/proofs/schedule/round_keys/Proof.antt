@@ -1,0 +1,45 @@
+use borrow.Author.Needs.{needs}
+use Rattle.sm4.specs.ReturnLaws.{keys-refused, keys-done}
+use Rattle.sm4.proofs.schedule.round_keys.Statement.{statement}
+use Rattle.sm4.proofs.schedule.round_keys.Tie as tie
+
+returns : tie.Need-returns
+returns c = keys-refused (c .before .before .args .key .now) (c .if1 .taken)
+
+sbox-requires : tie.Need-sbox-requires
+sbox-requires c κs = search needs
+
+constants-requires : tie.Need-constants-requires
+constants-requires c κs = search needs
+
+slice-aggregate-keys-from : tie.Need-slice-aggregate-keys-from
+slice-aggregate-keys-from c = search needs
+
+slice-aggregate-keys-from-2 : tie.Need-slice-aggregate-keys-from-2
+slice-aggregate-keys-from-2 c = search needs
+
+words-of-requires : tie.Need-words-of-requires
+words-of-requires c κs = search needs
+
+masked-requires : tie.Need-masked-requires
+masked-requires c κs = search needs
+
+keys-from-requires : tie.Need-keys-from-requires
+keys-from-requires c κs = search needs
+
+returns-2 : tie.Need-returns-2
+returns-2 c = keys-done (c .before .before .before .before .before .before .before .before .before .args .key .now) (c .before .before .before .before .before .before .before .if1 .left) (c .before .before .words-of .ensures) (c .before .masked .ensures) (c .keys-from .ensures)
+
+pub round-keys-spec : {M : Type 1} → statement M
+round-keys-spec =
+    tie.close
+    (tie.spec
+    returns
+    sbox-requires
+    constants-requires
+    slice-aggregate-keys-from
+    slice-aggregate-keys-from-2
+    words-of-requires
+    masked-requires
+    keys-from-requires
+    returns-2)

@@ -1,0 +1,124 @@
+-- What each function of the code returns, over what the functions that it calls ensure.
+use Prim.Native.Nat.{ℕ, suc, _+_, _*_, _-_, _/_, _%_, _^_, _≤_, _<_}
+use mathlib.Core.Path.{_≡_, refl, sym, ap, _∙_}
+use mathlib.Core.Bool.{Bool, true, false}
+use mathlib.Core.List.{List, _++_, append-nil}
+use native.Mathlib.Nat.{add-zero, mod-eq-of-lt}
+use native.Mathlib.Numerals.{add-one}
+use native.Mathlib.Omega.{arith}
+use borrow.Author.Tests.{eq-eqb, ne-eqb}
+use lib.Dec.{eqb}
+use lib.ListN.{length, getD, set, take, drop, replicate}
+use lib.Seq.{getD-drop, take-suc-set, take-all, append-snoc}
+use Rattle.words.specs.Bytes.{beBytes, putBe}
+use Rattle.words.specs.Codes.{done, badArgument}
+use Rattle.sm4.specs.Sbox.{substitute}
+use Rattle.sm4.specs.Sm4.{word, tau, linear, linearKey, round, step, steps, wordsOf, reversed, encryptWith, masked, ck, cks, keysFrom, roundKeys, sm4Of, keysRefused, keysAnswer, cipherRefused, encryptAnswer, sm4Answer}
+use Rattle.sm4.specs.Sm4Laws.{steps-add, cks-at, length-roundKeys}
+use Rattle.sm4.specs.declared.round.Quad.{Quad}
+use Rattle.sm4.specs.declared.schedule.Keys.{Keys}
+use Rattle.sm4.specs.declared.encryption.Cipher.{Cipher}
+
+-- ---- tables
+
+-- a place of the table is one of the slice that lends it
+pub in-table : {t u : List ℕ} (n i : ℕ) → t ≡ u → length u ≡ n → i < n → i < length t
+in-table n i e l h = rw (e, l) h
+
+-- ---- rounds
+
+-- the four bytes of tau, summed in two halves
+pub tau-sum : (x : ℕ) {a b c d : ℕ} → x < 2 ^ 32
+    → a ≡ substitute (x / 16777216) → b ≡ substitute (x / 65536 % 256) → c ≡ substitute (x / 256 % 256) → d ≡ substitute (x % 256)
+    → (a * 16777216 + c * 256) + (b * 65536 + d) ≡ tau x
+unfolding tau word
+tau-sum x h ea eb ec ed =
+    let e : x / 2 ^ 24 % 256 ≡ x / 16777216 = mod-eq-of-lt (omega arith) in
+    rw (e, ← ea, ← eb, ← ec, ← ed) (omega arith)
+
+-- four steps by four new words
+module _ (lin : ℕ → ℕ) (ks : List ℕ) (i : ℕ) (q : Quad) {a b c d : ℕ}
+    (first : a ≡ round lin (q .a) (q .b) (q .c) (q .d) (getD ks i 0))
+    (second : b ≡ round lin (q .b) (q .c) (q .d) a (getD ks (i + 1) 0))
+    (third : c ≡ round lin (q .c) (q .d) a b (getD ks (i + 2) 0))
+    (fourth : d ≡ round lin (q .d) a b c (getD ks (i + 3) 0)) where
+  pub four-steps : _≡_ {A = Quad} (record { a = a; b = b; c = c; d = d }) (steps lin (drop i ks) 4 q)
+  unfolding steps step
+  four-steps = simp (getD-drop, add-zero) (rw (← first, ← second, ← third, ← fourth))
+
+-- four rounds more
+pub rounds-more : (ks : List ℕ) (i : ℕ) (q : Quad) {s t : Quad} → s ≡ steps linear ks i q → t ≡ steps linear (drop i ks) 4 s → t ≡ steps linear ks (i + 4) q
+rounds-more ks i q es et = rw (steps-add linear ks i 4 q, ← es) et
+
+-- ---- the key schedule
+
+-- one more round key is stored
+pub keys-more : (parameters ws : List ℕ) (i : ℕ) (s : Quad) {t : Quad} → parameters ≡ cks → length ws ≡ 32 → i < 32 → t ≡ step linearKey (getD parameters i 0) s
+    → take (i + 1) (set ws i (t .d)) ++ keysFrom (32 - (i + 1)) (i + 1) t ≡ take i ws ++ keysFrom (32 - i) i s
+unfolding keysFrom
+keys-more parameters ws i s {t} ep el h et =
+    let e : 32 - i ≡ suc (32 - suc i) = omega arith in
+    let l : i < length ws = omega arith in
+    let f : step linearKey (ck i) s ≡ t = rw (← cks-at i h, ← ep) (sym et) in
+    rw (add-one, take-suc-set, e, f) (append-snoc (take i ws) (t .d) (keysFrom (32 - suc i) (suc i) t))
+
+pub keys-end : (ws : List ℕ) (i : ℕ) (s : Quad) → length ws ≡ 32 → i ≡ 32 → take i ws ++ keysFrom (32 - i) i s ≡ ws
+unfolding keysFrom
+keys-end ws i s el e =
+    let l : length ws ≤ 32 = omega arith in
+    rw (e, take-all 32 ws l) (append-nil ws)
+
+module _ (key : List ℕ) where
+  pub keys-refused : (length key ≡ 16 → ⊥) → keysRefused ≡ keysAnswer key
+  unfolding keysAnswer
+  keys-refused n = rw (ne-eqb (length key) 16 n)
+
+  pub keys-done : {q m : Quad} {ws : List ℕ} → length key ≡ 16 → q ≡ wordsOf key → m ≡ masked q → ws ≡ keysFrom 32 0 m
+      → _≡_ {A = Keys} (record { code = done; words = ws }) (keysAnswer key)
+  unfolding keysAnswer roundKeys
+  keys-done l eq em ew = rw (eq-eqb (length key) 16 l, ew, em, eq)
+
+-- ---- encryption
+
+-- the words stored one after the other
+stored : (a b c d : ℕ) → putBe 4 (putBe 4 (putBe 4 (putBe 4 (replicate 16 0) 0 d) 4 c) 8 b) 12 a ≡ beBytes 4 d ++ (beBytes 4 c ++ (beBytes 4 b ++ beBytes 4 a))
+unfolding putBe beBytes
+stored a b c d = refl
+
+pub reversed-stored : (q : Quad) {s t u v : List ℕ}
+    → s ≡ putBe 4 (replicate 16 0) 0 (q .d) → t ≡ putBe 4 s 4 (q .c) → u ≡ putBe 4 t 8 (q .b) → v ≡ putBe 4 u 12 (q .a) → v ≡ reversed q
+unfolding reversed
+reversed-stored q es et eu ev = ev ∙ rw (eu, et, es) (stored (q .a) (q .b) (q .c) (q .d))
+
+module _ (ks block : List ℕ) where
+  pub encrypt-refused-keys : (length ks ≡ 32 → ⊥) → cipherRefused ≡ encryptAnswer ks block
+  unfolding encryptAnswer
+  encrypt-refused-keys n = rw (ne-eqb (length ks) 32 n)
+
+  pub encrypt-refused-block : length ks ≡ 32 → (length block ≡ 16 → ⊥) → cipherRefused ≡ encryptAnswer ks block
+  unfolding encryptAnswer
+  encrypt-refused-block l n = rw (eq-eqb (length ks) 32 l, ne-eqb (length block) 16 n)
+
+  pub encrypt-done : {q s : Quad} {out : List ℕ} → length ks ≡ 32 → length block ≡ 16 → q ≡ wordsOf block → s ≡ steps linear ks 32 q → out ≡ reversed s
+      → _≡_ {A = Cipher} (record { code = done; block = out }) (encryptAnswer ks block)
+  unfolding encryptAnswer encryptWith
+  encrypt-done l m eq es eo = rw (eq-eqb (length ks) 32 l, eq-eqb (length block) 16 m, eo, es, eq)
+
+-- ---- both
+
+module _ (key block : List ℕ) {k : Keys} (made : k ≡ keysAnswer key) where
+  refused-by : (right : Bool) → eqb (length key) 16 ≡ right → (k .code ≡ done → ⊥) → cipherRefused ≡ sm4Answer key block
+  unfolding keysAnswer sm4Answer
+  refused-by true e n = absurd (n (ap (λ (x : Keys). x .code) made ∙ rw e))
+  refused-by false e n = rw e
+
+  pub sm4-refused : (k .code ≡ done → ⊥) → cipherRefused ≡ sm4Answer key block
+  sm4-refused n = refused-by (eqb (length key) 16) refl n
+
+  done-by : (right : Bool) → eqb (length key) 16 ≡ right → k .code ≡ done → encryptAnswer (k .words) block ≡ sm4Answer key block
+  unfolding keysAnswer encryptAnswer sm4Answer sm4Of
+  done-by true e d = let f : k .words ≡ roundKeys key = ap (λ (x : Keys). x .words) made ∙ rw e in rw (e, f, length-roundKeys key)
+  done-by false e d = let f : k .code ≡ badArgument = ap (λ (x : Keys). x .code) made ∙ rw e in absurd (omega arith)
+
+  pub sm4-done : {r : Cipher} → k .code ≡ done → r ≡ encryptAnswer (k .words) block → r ≡ sm4Answer key block
+  sm4-done d er = er ∙ done-by (eqb (length key) 16) refl d
