@@ -1,0 +1,23 @@
+use borrow.Author.Needs.{needs}
+use lib.Seq.{take-length}
+use Rattle.capi.specs.StoredLaws.{stored-refusal, stored-short, stored-whole}
+use Rattle.capi.proofs.store.store.Statement.{statement}
+use Rattle.capi.proofs.store.store.Tie as tie
+
+returns : tie.Need-returns
+returns c = stored-refusal (c .before .before .before .args .code) (c .before .before .before .args .result .now) (c .before .before .before .args .out .now) (c .if1 .taken)
+
+returns-2 : tie.Need-returns-2
+returns-2 c = stored-short (c .before .before .before .before .args .code) (c .before .before .before .before .args .result .now) (c .before .before .before .before .args .out .now) (c .before .if1 .left) (c .if2 .taken)
+
+copy-requires : tie.Need-copy-requires
+copy-requires c κs = search needs
+
+same-length : tie.Need-same-length
+same-length c = search needs
+
+returns-3 : tie.Need-returns-3
+returns-3 c = stored-whole (c .before .before .before .before .before .before .before .before .args .code) (c .before .before .before .before .before .before .before .before .args .result .now) (c .before .before .before .before .before .before .before .before .args .out .now) (c .before .before .before .before .before .if1 .left) (c .before .before .before .before .if2 .left) (rw (take-length (c .before .before .before .before .before .before .before .before .args .result .now)) at (c .before .before .copy .ensures .1))
+
+pub store-spec : {M : Type 1} → statement M
+store-spec = tie.close (tie.spec returns returns-2 copy-requires same-length returns-3)

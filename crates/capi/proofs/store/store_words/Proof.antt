@@ -1,0 +1,22 @@
+use borrow.Author.Needs.{needs}
+use Rattle.capi.specs.StoredLaws.{stored-refusal, stored-short, stored-whole}
+use Rattle.capi.proofs.store.store_words.Statement.{statement}
+use Rattle.capi.proofs.store.store_words.Tie as tie
+
+returns : tie.Need-returns
+returns c = stored-refusal (c .before .before .before .args .code) (c .before .before .before .args .result .now) (c .before .before .before .args .out .now) (c .if1 .taken)
+
+returns-2 : tie.Need-returns-2
+returns-2 c = stored-short (c .before .before .before .before .args .code) (c .before .before .before .before .args .result .now) (c .before .before .before .before .args .out .now) (c .before .if1 .left) (c .if2 .taken)
+
+copy-words-requires : tie.Need-copy-words-requires
+copy-words-requires c κs = search needs
+
+same-length : tie.Need-same-length
+same-length c = search needs
+
+returns-3 : tie.Need-returns-3
+returns-3 c = stored-whole (c .before .before .before .before .before .before .before .before .args .code) (c .before .before .before .before .before .before .before .before .args .result .now) (c .before .before .before .before .before .before .before .before .args .out .now) (c .before .before .before .before .before .if1 .left) (c .before .before .before .before .if2 .left) (c .before .before .copy-words .ensures)
+
+pub store-words-spec : {M : Type 1} → statement M
+store-words-spec = tie.close (tie.spec returns returns-2 copy-words-requires same-length returns-3)

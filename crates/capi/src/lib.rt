@@ -1,0 +1,55 @@
+// The functions for C and for other languages (include/dykeladder.h). A slice is a pointer and a length.
+mod store;
+
+use sm3::sm3;
+use sm4::encrypt;
+use sm4::round_keys;
+use sm4::sm4;
+use store::store;
+use store::store_words;
+ghost use mathlib.Core.Path.{_≡_};
+ghost use Rattle.capi.specs.Stored.{sm3Left, sm4Left, keysLeft, encryptLeft};
+
+// SM3 of the message, into the first 32 bytes of out.
+#[no_mangle]
+pub extern "C" fn dl_sm3(message: &[u8], out: &mut [u8]) -> u16
+    ensures { λ r. ⌜ r ≡ sm3Left (now (message .entry)) (now (out .entry)) .code ⌝ }
+    ensures { λ _. ⌜ now (out .exit) ≡ sm3Left (now (message .entry)) (now (out .entry)) .out ⌝ }
+{
+    let hash = sm3(message);
+    let digest = hash.digest;
+    store(hash.code, &digest, out)
+}
+
+// SM4 of the block under the key, into the first 16 bytes of out.
+#[no_mangle]
+pub extern "C" fn dl_sm4(key: &[u8], block: &[u8], out: &mut [u8]) -> u16
+    ensures { λ r. ⌜ r ≡ sm4Left (now (key .entry)) (now (block .entry)) (now (out .entry)) .code ⌝ }
+    ensures { λ _. ⌜ now (out .exit) ≡ sm4Left (now (key .entry)) (now (block .entry)) (now (out .entry)) .out ⌝ }
+{
+    let cipher = sm4(key, block);
+    let made = cipher.block;
+    store(cipher.code, &made, out)
+}
+
+// The 32 round keys of the key, into the first words of out.
+#[no_mangle]
+pub extern "C" fn dl_sm4_keys(key: &[u8], out: &mut [u32]) -> u16
+    ensures { λ r. ⌜ r ≡ keysLeft (now (key .entry)) (now (out .entry)) .code ⌝ }
+    ensures { λ _. ⌜ now (out .exit) ≡ keysLeft (now (key .entry)) (now (out .entry)) .out ⌝ }
+{
+    let keys = round_keys(key);
+    let made = keys.words;
+    store_words(keys.code, &made, out)
+}
+
+// SM4 of the block under round keys, into the first 16 bytes of out.
+#[no_mangle]
+pub extern "C" fn dl_sm4_encrypt(keys: &[u32], block: &[u8], out: &mut [u8]) -> u16
+    ensures { λ r. ⌜ r ≡ encryptLeft (now (keys .entry)) (now (block .entry)) (now (out .entry)) .code ⌝ }
+    ensures { λ _. ⌜ now (out .exit) ≡ encryptLeft (now (keys .entry)) (now (block .entry)) (now (out .entry)) .out ⌝ }
+{
+    let cipher = encrypt(keys, block);
+    let made = cipher.block;
+    store(cipher.code, &made, out)
+}
