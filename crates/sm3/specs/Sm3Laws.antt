@@ -9,7 +9,7 @@ use native.Mathlib.Omega.{arith}
 use borrow.Author.Tests.{lt-ltb, le-ltb, ltb-true, ltb-false, eqb-true}
 use lib.Dec.{ltb, eqb}
 use lib.ListN.{length, getD, set, take, drop, replicate, length-set, length-append, length-drop, length-replicate, replicate-append-replicate, List·getD-append}
-use lib.Seq.{getD-take, getD-drop, getD-set-other, take-all, take-length, take-suc-set, set-at, drop-append-le}
+use lib.Seq.{getD-take, getD-drop, getD-set-other, take-all, take-length, take-suc-set, set-at, set-out, drop-append-le}
 use Rattle.words.specs.Bytes.{beAt, beBytes, putBe}
 use Rattle.words.specs.BytesLaws.{beAt-agree, length-beBytes, putBe-seam}
 use Rattle.words.specs.Codes.{done, badArgument}
@@ -183,19 +183,28 @@ pub load-more : (m : List ℕ) (at j : ℕ) (w : List ℕ) {x : ℕ} → j < len
 unfolding wordsAt
 load-more m at j w {x} h p e = rw add-one (take-suc-set w j x h ∙ rw (p, e))
 
--- the three runs of rounds make the compression function
-pub compress-of : (v : Registers) (block w w₁ w₂ : List ℕ) {first middle last : Registers} → length w ≡ 68 → take 16 w ≡ block
-    → w₁ ≡ grown 16 w 16 → first ≡ roundsFrom 16 0 w₁ v
-    → w₂ ≡ grown 36 w₁ 32 → middle ≡ roundsFrom 36 16 w₂ first → last ≡ roundsFrom 12 52 w₂ middle
-    → xored last v ≡ compressed v block
+-- past the last word nothing is stored
+grown-past : (n : ℕ) (w : List ℕ) (j : ℕ) → length w ≤ j → grown n w j ≡ w
+unfolding grown
+grown-past zero w j h = refl
+grown-past (suc n) w j h = rw (grown-past n w j h) (set-out w (j + n) (nextWord w (j + n)) (omega arith))
+
+pub four-past : (w : List ℕ) (j : ℕ) → length w ≤ j → w ≡ grown 4 w j
+four-past w j h = sym (grown-past 4 w j h)
+
+-- the two runs of rounds make the compression function
+pub compress-of : (v : Registers) (block w w₁ w₂ : List ℕ) {early late : Registers} → length w ≡ 68 → take 16 w ≡ block
+    → w₁ ≡ grown 16 w 16 → early ≡ roundsFrom 16 0 w₁ v → w₂ ≡ grown 48 w₁ 32 → late ≡ roundsFrom 48 16 w₂ early
+    → xored late v ≡ compressed v block
 unfolding compressed
-compress-of v block w w₁ w₂ {first} {middle} {last} l b p f q m e =
-    let all : w₂ ≡ grown 52 w 16 = q ∙ rw p (grown-on 36 16 w 16) in
+compress-of v block w w₁ w₂ {early} {late} l b p f q m =
+    let full : length (grown 52 w 16) ≤ 68 = rw (length-grown 52 w 16) (omega arith) in
+    let all : w₂ ≡ grown 52 w 16 =
+    q ∙ rw (p, grown-on 48 16 w 16, ← grown-on 12 52 w 16) (grown-past 12 (grown 52 w 16) 68 full) in
     let words : w₂ ≡ expand 52 block =
-    sym (take-all 68 w₂ (rw (all, length-grown 52 w 16) (omega arith))) ∙ rw (all, ← b) (grown-expands 52 w (omega arith)) in
-    let f′ : first ≡ roundsFrom 16 0 w₂ v = f ∙ rw q (sym (rounds-grown 36 16 0 w₁ 32 v (omega arith))) in
-    let m′ : middle ≡ roundsFrom 52 0 w₂ v = m ∙ rw f′ (rounds-on 36 16 0 w₂ v) in
-    let r : last ≡ roundsFrom 64 0 w₂ v = e ∙ rw m′ (rounds-on 12 52 0 w₂ v) in
+    sym (take-all 68 w₂ (rw all full)) ∙ rw (all, ← b) (grown-expands 52 w (omega arith)) in
+    let f′ : early ≡ roundsFrom 16 0 w₂ v = f ∙ rw q (sym (rounds-grown 48 16 0 w₁ 32 v (omega arith))) in
+    let r : late ≡ roundsFrom 64 0 w₂ v = m ∙ rw f′ (rounds-on 48 16 0 w₂ v) in
     rw (rounds-from-zero 64 (expand 52 block) v, ← words, r)
 
 pub reached-length : {i s : ℕ} {w₀ : List ℕ} {r₀ : Registers} {w : List ℕ} {r : Registers} → Reached i s w₀ r₀ w r → length w ≡ length w₀

@@ -2,7 +2,7 @@
 use words::bytes::word_at;
 use words::word::rotate_left;
 ghost use mathlib.Core.Path.{_≡_};
-ghost use Prim.Native.Nat.{_+_, _≤_, _<_};
+ghost use Prim.Native.Nat.{_+_, _%_, _≤_, _<_};
 ghost use lib.ListN.{length, set, take};
 ghost use Rattle.sm3.specs.Sm3.{p1, wordsAt, nextWord};
 ghost use Rattle.sm3.specs.Sm3Laws.{grown};
@@ -49,12 +49,16 @@ fn grow(w: &mut [u32], j: usize)
     w[j] = next;
 }
 
-// Stores W_j to W_j+3.
+// Stores W_j to W_j+3. Past the last word there is nothing to store.
 pub(crate) fn grow_four(w: &mut [u32], j: usize)
     requires { ⌜ 16 ≤ j ⌝ }
-    requires { ⌜ j + 4 ≤ length (now w) ⌝ }
+    requires { ⌜ length (now w) ≡ 68 ⌝ }
+    requires { ⌜ j % 4 ≡ 0 ⌝ }
     ensures { λ _. ⌜ now (w .exit) ≡ grown 4 (now (w .entry)) j ⌝ }
 {
+    if w.len() <= j {
+        return;
+    }
     grow(w, j);
     grow(w, j + 1);
     grow(w, j + 2);

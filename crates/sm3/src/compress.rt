@@ -12,7 +12,7 @@ ghost use Rattle.sm3.specs.Sm3.{wordsAt, xored, compressed, iterated};
 ghost use Rattle.sm3.specs.Sm3Laws.{constants, grown, roundsFrom};
 
 // The rounds 0 to 15, and the words W_16 to W_31.
-fn first_rounds(v: Registers, w: &mut [u32], t: &[u32]) -> Registers
+fn early_rounds(v: Registers, w: &mut [u32], t: &[u32]) -> Registers
     requires { ⌜ length (now w) ≡ 68 ⌝ }
     requires { ⌜ now t ≡ constants ⌝ }
     ensures { λ q. ⌜ now (w .exit) ≡ grown 16 (now (w .entry)) 16 ⌝ }
@@ -28,33 +28,18 @@ fn first_rounds(v: Registers, w: &mut [u32], t: &[u32]) -> Registers
     r
 }
 
-// The rounds 16 to 51, and the words W_32 to W_67.
-fn middle_rounds(v: Registers, w: &mut [u32], t: &[u32]) -> Registers
+// The rounds 16 to 63, and the words W_32 to W_67.
+fn late_rounds(v: Registers, w: &mut [u32], t: &[u32]) -> Registers
     requires { ⌜ length (now w) ≡ 68 ⌝ }
     requires { ⌜ now t ≡ constants ⌝ }
-    ensures { λ q. ⌜ now (w .exit) ≡ grown 36 (now (w .entry)) 32 ⌝ }
-    ensures { λ q. ⌜ q ≡ roundsFrom 36 16 (now (w .exit)) v ⌝ }
+    ensures { λ q. ⌜ now (w .exit) ≡ grown 48 (now (w .entry)) 32 ⌝ }
+    ensures { λ q. ⌜ q ≡ roundsFrom 48 16 (now (w .exit)) v ⌝ }
 {
     let mut r = v;
     let mut i = 0;
-    while i < 36 {
+    while i < 48 {
         grow_four(w, 32 + i);
         r = four_late(r, 16 + i, w, t);
-        i += 4;
-    }
-    r
-}
-
-// The rounds 52 to 63.
-fn last_rounds(v: Registers, w: &[u32], t: &[u32]) -> Registers
-    requires { ⌜ length (now w) ≡ 68 ⌝ }
-    requires { ⌜ now t ≡ constants ⌝ }
-    ensures { λ q. ⌜ q ≡ roundsFrom 12 52 (now (w .entry)) v ⌝ }
-{
-    let mut r = v;
-    let mut i = 0;
-    while i < 12 {
-        r = four_late(r, 52 + i, w, t);
         i += 4;
     }
     r
@@ -82,10 +67,9 @@ fn compress(v: Registers, m: &[u8], at: usize, t: &[u32]) -> Registers
     ensures { λ q. ⌜ q ≡ compressed v (wordsAt 16 (now (m .entry)) at) ⌝ }
 {
     let mut w = load(m, at);
-    let first = first_rounds(v, &mut w, t);
-    let middle = middle_rounds(first, &mut w, t);
-    let last = last_rounds(middle, &w, t);
-    xored(last, v)
+    let early = early_rounds(v, &mut w, t);
+    let late = late_rounds(early, &mut w, t);
+    xored(late, v)
 }
 
 // The first n blocks of m, one after the other.

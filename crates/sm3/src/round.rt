@@ -22,11 +22,11 @@ fn majority(x: u32, y: u32, z: u32) -> u32
     (x & y) | (x & z) | (y & z)
 }
 
-// GG of the rounds 16 to 63.
+// GG of the rounds 16 to 63, in the form that takes one operation less.
 fn choice(x: u32, y: u32, z: u32) -> u32
     ensures { λ r. ⌜ r ≡ choice x y z ⌝ }
 {
-    (x & y) | (!x & z)
+    ((y ^ z) & x) ^ z
 }
 
 // The permutation P0.

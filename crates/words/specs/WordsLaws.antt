@@ -2,10 +2,10 @@
 use Prim.Native.Nat.{ℕ, zero, suc, _+_, _*_, _-_, _/_, _%_, _^_, _≤_, _<_}
 use mathlib.Core.Path.{_≡_, refl, sym, ap, ap₂, _∙_, subst}
 use mathlib.Core.Logic.{_⊎_, inl, inr, ⊎-elim}
-use native.Mathlib.Nat.{mod-lt, mul-div-cancel, mul-mod-left, add-zero, zero-lt-suc, sub-add-cancel}
+use native.Mathlib.Nat.{mod-lt, mul-div-cancel, mul-mod-left, add-zero, zero-lt-suc, sub-add-cancel, div-add-mod', pow-suc}
 use native.Mathlib.Omega.{arith}
-use lib.Arith.{digits-lt, digits-mod, mod-mul, bin-ind}
-use lib.Bits.{bitOr, bitXor, differ, or-shifted, xor-step, xor-shr, xor-self, xor-zero-r}
+use lib.Arith.{lt-one, digits-lt, digits-mod, mod-mul, bin-ind}
+use lib.Bits.{bitAnd, bitOr, bitXor, differ, and-shr, and-mod, or-shr, or-mod, xor-mod, or-shifted, xor-step, xor-shr, xor-self, xor-zero-r}
 use lib.Pow.{pow-pos, pow-add, shr-lt}
 use Rattle.words.specs.Words.{_⋘_}
 
@@ -79,3 +79,65 @@ xor-assoc a =
 -- the same word twice leaves nothing
 pub xor-cancel : (a b : ℕ) → bitXor (bitXor a b) b ≡ a
 xor-cancel a b = xor-assoc a b b ∙ ap (bitXor a) (xor-self b) ∙ xor-zero-r a
+
+-- ---- choosing bits
+
+-- numbers with equal halves and equal last bits are equal
+by-halves : (m n : ℕ) → m / 2 ≡ n / 2 → m % 2 ≡ n % 2 → m ≡ n
+by-halves m n p q = sym (div-add-mod' m 2) ∙ ap₂ (λ (h l : ℕ). h * 2 + l) p q ∙ div-add-mod' n 2
+
+merged : ℕ → ℕ → ℕ → ℕ
+merged x y z = bitXor (bitAnd (bitXor y z) x) z
+
+-- n is what complements x
+chosen : ℕ → ℕ → ℕ → ℕ → ℕ
+chosen x n y z = bitOr (bitAnd x y) (bitAnd n z)
+
+merged-half : (x y z : ℕ) → merged x y z / 2 ≡ merged (x / 2) (y / 2) (z / 2)
+unfolding merged
+merged-half x y z = xor-shr (bitAnd (bitXor y z) x) z 1 ∙ rw (and-shr (bitXor y z) x 1, xor-shr y z 1)
+
+merged-last : (x y z : ℕ) → merged x y z % 2 ≡ merged (x % 2) (y % 2) (z % 2)
+unfolding merged
+merged-last x y z = xor-mod (bitAnd (bitXor y z) x) z 1 ∙ rw (and-mod (bitXor y z) x 1, xor-mod y z 1)
+
+chosen-half : (x n y z : ℕ) → chosen x n y z / 2 ≡ chosen (x / 2) (n / 2) (y / 2) (z / 2)
+unfolding chosen
+chosen-half x n y z = or-shr (bitAnd x y) (bitAnd n z) 1 ∙ rw (and-shr x y 1, and-shr n z 1)
+
+chosen-last : (x n y z : ℕ) → chosen x n y z % 2 ≡ chosen (x % 2) (n % 2) (y % 2) (z % 2)
+unfolding chosen
+chosen-last x n y z = or-mod (bitAnd x y) (bitAnd n z) 1 ∙ rw (and-mod x y 1, and-mod n z 1)
+
+same-bit : (x y z : ℕ) → merged (x % 2) (y % 2) (z % 2) ≡ chosen (x % 2) (1 - x % 2) (y % 2) (z % 2)
+unfolding merged chosen
+same-bit x y z =
+    by-bit (λ a. merged a (y % 2) (z % 2) ≡ chosen a (1 - a) (y % 2) (z % 2))
+    (by-bit (λ b. merged 0 b (z % 2) ≡ chosen 0 1 b (z % 2))
+    (by-bit (λ c. merged 0 0 c ≡ chosen 0 1 0 c) refl refl z)
+    (by-bit (λ c. merged 0 1 c ≡ chosen 0 1 1 c) refl refl z)
+    y)
+    (by-bit (λ b. merged 1 b (z % 2) ≡ chosen 1 0 b (z % 2))
+    (by-bit (λ c. merged 1 0 c ≡ chosen 1 0 0 c) refl refl z)
+    (by-bit (λ c. merged 1 1 c ≡ chosen 1 0 1 c) refl refl z)
+    y)
+    x
+
+merged-chosen : (k x y z : ℕ) → x < 2 ^ k → y < 2 ^ k → z < 2 ^ k → merged x y z ≡ chosen x (2 ^ k - 1 - x) y z
+unfolding merged chosen
+merged-chosen zero x y z a b c = rw (lt-one a, lt-one b, lt-one c)
+merged-chosen (suc k) x y z a b c =
+    let p = pow-suc 2 k in
+    let n : (2 ^ suc k - 1 - x) / 2 ≡ 2 ^ k - 1 - x / 2 = omega arith in
+    let m : (2 ^ suc k - 1 - x) % 2 ≡ 1 - x % 2 = omega arith in
+    by-halves (merged x y z) (chosen x (2 ^ suc k - 1 - x) y z)
+    (merged-half x y z
+    ∙ merged-chosen k (x / 2) (y / 2) (z / 2) (omega arith) (omega arith) (omega arith)
+    ∙ rw (chosen-half x (2 ^ suc k - 1 - x) y z, n))
+    (merged-last x y z ∙ same-bit x y z ∙ rw (chosen-last x (2 ^ suc k - 1 - x) y z, m))
+
+-- the bits of y where x has ones, and of z elsewhere, by exclusive or
+pub choice-by-xor : (x y z : ℕ) → x < 2 ^ 32 → y < 2 ^ 32 → z < 2 ^ 32
+    → bitXor (bitAnd (bitXor y z) x) z ≡ bitOr (bitAnd x y) (bitAnd (2 ^ 32 - 1 - x) z)
+unfolding merged chosen
+choice-by-xor = merged-chosen 32

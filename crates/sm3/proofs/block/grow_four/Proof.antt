@@ -1,7 +1,10 @@
 use borrow.Author.Needs.{needs}
-use Rattle.sm3.specs.Sm3Laws.{four-grown}
+use Rattle.sm3.specs.Sm3Laws.{four-grown, four-past}
 use Rattle.sm3.proofs.block.grow_four.Statement.{statement}
 use Rattle.sm3.proofs.block.grow_four.Tie as tie
+
+returns : tie.Need-returns
+returns c = four-past (c .before .before .args .w .now) (c .before .before .args .j) (c .if1 .taken)
 
 grow-requires : tie.Need-grow-requires
 grow-requires c κs = search needs
@@ -27,13 +30,14 @@ grow-requires-4 c κs = search needs
 same-length : tie.Need-same-length
 same-length c = search needs
 
-returns : tie.Need-returns
-returns c = four-grown (c .before .before .before .before .before .before .before .before .before .before .before .before .before .before .before .before .before .args .w .now) (c .before .before .before .before .before .before .before .before .before .before .before .before .before .before .before .before .before .args .j) (c .before .before .before .before .before .before .before .before .before .before .before .before .before .before .grow .ensures) (c .before .before .before .before .before .before .before .before .before .before .grow2 .ensures) (c .before .before .before .before .before .before .grow3 .ensures) (c .before .before .grow4 .ensures)
+returns-2 : tie.Need-returns-2
+returns-2 c = four-grown (c .before .before .before .before .before .before .before .before .before .before .before .before .before .before .before .before .before .before .args .w .now) (c .before .before .before .before .before .before .before .before .before .before .before .before .before .before .before .before .before .before .args .j) (c .before .before .before .before .before .before .before .before .before .before .before .before .before .before .grow .ensures) (c .before .before .before .before .before .before .before .before .before .before .grow2 .ensures) (c .before .before .before .before .before .before .grow3 .ensures) (c .before .before .grow4 .ensures)
 
 pub grow-four-spec : {M : Type 1} → statement M
 grow-four-spec =
     tie.close
     (tie.spec
+    returns
     grow-requires
     add-grow
     grow-requires-2
@@ -42,4 +46,4 @@ grow-four-spec =
     add-grow-3
     grow-requires-4
     same-length
-    returns)
+    returns-2)

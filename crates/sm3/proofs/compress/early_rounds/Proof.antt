@@ -4,8 +4,8 @@ use native.Mathlib.Nat.{zero-add}
 use borrow.Author.Needs.{needs}
 use native.Mathlib.Omega.{arith}
 use Rattle.sm3.specs.Sm3Laws.{Reached, reached-none, reached-more, reached-length}
-use Rattle.sm3.proofs.compress.first_rounds.Statement.{statement}
-use Rattle.sm3.proofs.compress.first_rounds.Tie as tie
+use Rattle.sm3.proofs.compress.early_rounds.Statement.{statement}
+use Rattle.sm3.proofs.compress.early_rounds.Tie as tie
 
 abbrev Inv-loop : tie.InvT-loop
 Inv-loop w₀ t r₀ i₀ w r i = (i ≤ 16) × ((i % 4 ≡ 0) × Reached i 0 w₀ r₀ w r)
@@ -40,8 +40,8 @@ same-length c = reached-length (c .before .loop .inv .1 .1)
 returns : tie.Need-returns Inv-loop μ-loop
 returns c = let e : c .before .loop .i ≡ 16 = omega arith in let all = rw e at (c .before .loop .inv .1 .1) in (all .words, all .registers)
 
-pub first-rounds-spec : {M : Type 1} → statement M
-first-rounds-spec =
+pub early-rounds-spec : {M : Type 1} → statement M
+early-rounds-spec =
     tie.close
     (tie.spec
     Inv-loop

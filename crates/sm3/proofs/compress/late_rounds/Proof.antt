@@ -3,14 +3,14 @@ use mathlib.Core.Path.{_≡_, refl, _∙_}
 use borrow.Author.Needs.{needs}
 use native.Mathlib.Omega.{arith}
 use Rattle.sm3.specs.Sm3Laws.{Reached, reached-none, reached-more, reached-length}
-use Rattle.sm3.proofs.compress.middle_rounds.Statement.{statement}
-use Rattle.sm3.proofs.compress.middle_rounds.Tie as tie
+use Rattle.sm3.proofs.compress.late_rounds.Statement.{statement}
+use Rattle.sm3.proofs.compress.late_rounds.Tie as tie
 
 abbrev Inv-loop : tie.InvT-loop
-Inv-loop w₀ t r₀ i₀ w r i = (i ≤ 36) × ((i % 4 ≡ 0) × Reached i 16 w₀ r₀ w r)
+Inv-loop w₀ t r₀ i₀ w r i = (i ≤ 48) × ((i % 4 ≡ 0) × Reached i 16 w₀ r₀ w r)
 
 abbrev μ-loop : tie.MeasureT-loop
-μ-loop w₀ t r₀ i₀ w r i = 36 - i
+μ-loop w₀ t r₀ i₀ w r i = 48 - i
 
 loop-holds : tie.Need-loop-holds Inv-loop μ-loop
 loop-holds c = (search needs, (search needs, reached-none 16 (c .before .before .args .w .now) (c .before .before .args .v)))
@@ -40,10 +40,10 @@ same-length : tie.Need-same-length Inv-loop μ-loop
 same-length c = reached-length (c .before .loop .inv .1 .1)
 
 returns : tie.Need-returns Inv-loop μ-loop
-returns c = let e : c .before .loop .i ≡ 36 = omega arith in let all = rw e at (c .before .loop .inv .1 .1) in (all .words, all .registers)
+returns c = let e : c .before .loop .i ≡ 48 = omega arith in let all = rw e at (c .before .loop .inv .1 .1) in (all .words, all .registers)
 
-pub middle-rounds-spec : {M : Type 1} → statement M
-middle-rounds-spec =
+pub late-rounds-spec : {M : Type 1} → statement M
+late-rounds-spec =
     tie.close
     (tie.spec
     Inv-loop
