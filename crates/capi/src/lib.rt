@@ -49,7 +49,7 @@ pub extern "C" fn dl_sm4_encrypt(keys: &[u32], block: &[u8], out: &mut [u8]) -> 
     ensures { λ r. ⌜ r ≡ encryptLeft (now (keys .entry)) (now (block .entry)) (now (out .entry)) .code ⌝ }
     ensures { λ _. ⌜ now (out .exit) ≡ encryptLeft (now (keys .entry)) (now (block .entry)) (now (out .entry)) .out ⌝ }
 {
-    let cipher = encrypt(keys, block);
-    let made = cipher.block;
-    store(cipher.code, &made, out)
+    let encrypted = encrypt(keys, block);
+    let made = encrypted.block;
+    store(encrypted.code, &made, out)
 }
