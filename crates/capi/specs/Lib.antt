@@ -1,3 +1,3 @@
 -- What the C functions leave in their lent outputs.
 pub mod Stored
-pub mod StoredLaws
+pub mod CopyLaws

@@ -6,7 +6,7 @@ ghost use mathlib.Core.Path.{_≡_};
 ghost use mathlib.Core.List.{_++_};
 ghost use Prim.Native.Nat.{_≤_};
 ghost use lib.ListN.{length, drop};
-ghost use Rattle.capi.specs.Stored.{stored};
+ghost use Rattle.words.specs.Output.{stored};
 
 pub(crate) fn store(code: u16, result: &[u8], out: &mut [u8]) -> u16
     ensures { λ r. ⌜ r ≡ stored code (now (result .entry)) (now (out .entry)) .code ⌝ }

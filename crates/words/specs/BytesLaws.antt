@@ -2,8 +2,8 @@
 use Prim.Native.Nat.{ℕ, zero, suc, _+_, _-_, _*_, _/_, _%_, _^_, _≤_, _<_}
 use mathlib.Core.Path.{_≡_, refl, sym, ap₂, _∙_}
 use mathlib.Core.Logic.{_⊎_, inl, inr}
-use mathlib.Core.List.{List, [], _∷_, _++_, append-assoc}
-use native.Mathlib.Nat.{add-suc, add-zero, pow-suc, mod-one, one-le-pow, pow-le-pow-right, lt-of-lt-of-le, le-trans, le-suc, zero-lt-suc, not-suc-le-zero}
+use mathlib.Core.List.{List, [], _∷_, _++_, append-assoc, append-nil}
+use native.Mathlib.Nat.{add-suc, add-zero, pow-suc, mod-one, one-le-pow, pow-le-pow-right, lt-of-lt-of-le, le-trans, le-suc, zero-lt-suc, not-suc-le-zero, mul-assoc, mul-comm, div-one, div-div-eq-div-mul, mod-lt}
 use native.Mathlib.Numerals.{add-one}
 use native.Mathlib.Omega.{arith}
 use lib.Arith.{digits-lt, mod-mul}
@@ -93,3 +93,31 @@ beAt-putBe (suc k) s at x h =
     (beAt-putBe k (set s (at + k) (x % 256)) at (x / 256) (rw length-set (omega arith)))
     (getD-putBe k (set s (at + k) (x % 256)) at (x / 256) (at + k) (inr (omega arith)) ∙ getD-set-same s (at + k) (x % 256) 0 (omega arith))
     ∙ rw pow-suc (sym (mod-mul x (one-le-pow k 256 (zero-lt-suc 255)) (zero-lt-suc 255)))
+
+-- ---- a number in two parts
+
+pub beAt-split : (j k : ℕ) (s : List ℕ) (at : ℕ) → beAt (j + k) s at ≡ beAt j s at * 256 ^ k + beAt k s (at + j)
+unfolding beAt
+beAt-split j zero s at = let e : beAt j s at * 1 + 0 ≡ beAt j s at = omega arith in rw (add-zero j) (sym e)
+beAt-split j (suc k) s at =
+    let ih = beAt-split j k s at in
+    let p : beAt j s at * (256 ^ k * 256) ≡ beAt j s at * 256 ^ k * 256 = sym (mul-assoc (beAt j s at) (256 ^ k) 256) in
+    let q : at + (j + k) ≡ at + j + k = omega arith in
+    rw (add-suc, ih, pow-suc, p, q) (omega arith)
+
+pub beBytes-split : (j k x : ℕ) → beBytes (j + k) x ≡ beBytes j (x / 256 ^ k) ++ beBytes k x
+unfolding beBytes
+beBytes-split j zero x = rw (add-zero j, div-one x) (sym (append-nil (beBytes j x)))
+beBytes-split j (suc k) x =
+    let e : x / 256 / 256 ^ k ≡ x / (256 ^ k * 256) = div-div-eq-div-mul x 256 (256 ^ k) ∙ rw (mul-comm 256 (256 ^ k)) in
+    rw (add-suc, beBytes-split j k (x / 256), pow-suc, e) (append-assoc (beBytes j (x / (256 ^ k * 256))) (beBytes k (x / 256)) (x % 256 ∷ []))
+
+-- k bytes hold a number without what lies above them
+pub beBytes-mod : (k x : ℕ) → beBytes k (x % 256 ^ k) ≡ beBytes k x
+unfolding beBytes
+beBytes-mod zero x = refl
+beBytes-mod (suc k) x =
+    let m = mod-mul x (one-le-pow k 256 (zero-lt-suc 255)) (zero-lt-suc 255) in
+    let h : x % (256 ^ k * 256) / 256 ≡ x / 256 % 256 ^ k = omega (arith, mod-lt x (zero-lt-suc 255)) in
+    let l : x % (256 ^ k * 256) % 256 ≡ x % 256 = omega (arith, mod-lt x (zero-lt-suc 255)) in
+    rw (pow-suc, h, l, beBytes-mod k (x / 256))

@@ -7,3 +7,5 @@ pub mod Lists
 pub mod ListsLaws
 pub mod Tables
 pub mod Codes
+pub mod Output
+pub mod OutputLaws

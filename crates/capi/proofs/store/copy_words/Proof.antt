@@ -5,7 +5,7 @@ use borrow.Author.Needs.{needs}
 use native.Mathlib.Omega.{arith}
 use lib.ListN.{length, take, drop, length-append, length-drop}
 use lib.Seq.{length-take-le}
-use Rattle.capi.specs.StoredLaws.{copy-more, copy-end}
+use Rattle.capi.specs.CopyLaws.{copy-more, copy-end}
 use Rattle.capi.proofs.store.copy_words.Statement.{statement}
 use Rattle.capi.proofs.store.copy_words.Tie as tie
 

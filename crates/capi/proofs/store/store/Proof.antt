@@ -1,6 +1,6 @@
 use borrow.Author.Needs.{needs}
 use lib.Seq.{take-length}
-use Rattle.capi.specs.StoredLaws.{stored-refusal, stored-short, stored-whole}
+use Rattle.words.specs.OutputLaws.{stored-refusal, stored-short, stored-whole}
 use Rattle.capi.proofs.store.store.Statement.{statement}
 use Rattle.capi.proofs.store.store.Tie as tie
 

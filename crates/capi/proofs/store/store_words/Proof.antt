@@ -1,5 +1,5 @@
 use borrow.Author.Needs.{needs}
-use Rattle.capi.specs.StoredLaws.{stored-refusal, stored-short, stored-whole}
+use Rattle.words.specs.OutputLaws.{stored-refusal, stored-short, stored-whole}
 use Rattle.capi.proofs.store.store_words.Statement.{statement}
 use Rattle.capi.proofs.store.store_words.Tie as tie
 

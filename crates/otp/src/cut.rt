@@ -1,0 +1,36 @@
+// The cut (6.3): the sum of an output's words, and its last decimal digits.
+use std::num::wrapping_add_u32 as add;
+use words::bytes::word_at;
+ghost use mathlib.Core.Path.{_≡_};
+ghost use mathlib.Core.List.{_++_};
+ghost use Prim.Native.Nat.{_≤_, _<_};
+ghost use lib.ListN.{length, drop};
+ghost use Rattle.otp.specs.Password.{cut, decimals};
+
+// The sum of all 4-byte words, without the carry.
+pub(crate) fn cut(output: &[u8]) -> u32
+    ensures { λ r. ⌜ r ≡ cut (now (output .entry)) ⌝ }
+{
+    let words = output.len() / 4;
+    let mut sum: u32 = 0;
+    let mut i = 0;
+    while i < words {
+        sum = add(sum, word_at(output, 4 * i));
+        i += 1;
+    }
+    sum
+}
+
+// The last n decimal digits of x, at the front of out. Ten to the n is never formed.
+pub(crate) fn put_decimals(x: u32, n: usize, out: &mut [u8])
+    requires { ⌜ n ≤ length (now out) ⌝ }
+    ensures { λ _. ⌜ now (out .exit) ≡ decimals n x ++ drop n (now (out .entry)) ⌝ }
+{
+    let mut left = n;
+    let mut rest = x;
+    while 0 < left {
+        left -= 1;
+        out[left] = 48 + (rest % 10) as u8;
+        rest = rest / 10;
+    }
+}
