@@ -1,17 +1,24 @@
 -- Laws of the SM4 way.
-use Prim.Native.Nat.{ℕ, zero, suc, _+_, _-_, _*_, _/_, _%_, _^_, _≤_, _<_}
+use Prim.Native.Nat.{ℕ, zero, suc, _+_, _-_, _*_, _/_, _%_, _^_, _≤_, _<_, max}
 use mathlib.Core.Bool.{Bool, true, false, cond}
 use mathlib.Core.Path.{_≡_, refl, sym, ap, _∙_}
-use mathlib.Core.List.{List, [], _∷_, _++_}
-use native.Mathlib.Nat.{mod-add-mod}
+use mathlib.Core.List.{List, _++_, append-assoc}
+use native.Mathlib.Nat.{mod-add-mod, not-suc-le-zero, zero-add}
 use native.Mathlib.Omega.{arith}
-use borrow.Author.Tests.{ltb-true, ltb-false}
-use lib.Dec.{ltb}
-use lib.ListN.{length, take, drop, replicate}
+use borrow.Author.Tests.{ltb-true, ltb-false, ne-eqb, lt-ltb}
+use lib.Dec.{ltb, eqb}
+use lib.ListN.{length, take, drop, replicate, length-append, length-take, length-drop, length-replicate, replicate-append-replicate}
+use lib.Seq.{length-take-le, take-at, drop-append-le, take-append-le}
 use Rattle.words.specs.Bytes.{beAt, beBytes, putBe}
-use Rattle.words.specs.BytesLaws.{beAt-split, beBytes-split, beBytes-mod}
-use Rattle.sm4.specs.Sm4.{encryptWith}
-use Rattle.otp.specs.Password.{blockAt, blockSum}
+use Rattle.words.specs.BytesLaws.{length-beBytes, beAt-split, beBytes-split, beBytes-mod}
+use Rattle.sm3.specs.Sm3.{sm3Of, sm3Answer}
+use Rattle.sm3.specs.declared.Hash.{Hash}
+use Rattle.sm4.specs.Sm4.{encryptWith, reversed, roundKeys, sm4Of, encryptAnswer, keysAnswer}
+use Rattle.sm4.specs.Sm4Laws.{length-roundKeys}
+use Rattle.sm4.specs.declared.encryption.Cipher.{Cipher}
+use Rattle.sm4.specs.declared.schedule.Keys.{Keys}
+use Rattle.otp.specs.Password.{blockAt, blockSum, outputOf, chained, filled, toBlocks, cut, algorithmSm4}
+use Rattle.otp.specs.IdLaws.{put, put-on}
 
 -- the outputs under round keys
 unfoldable pub chain : List ℕ → List ℕ → ℕ → List ℕ
@@ -27,9 +34,9 @@ carried a b p q =
     (λ t. let h = ltb-true ((a + b) % 2 ^ 64) a t in rw t (omega arith))
     (λ t. let h = ltb-false ((a + b) % 2 ^ 64) a t in rw t (omega arith))
   where
-  split : {X : Type 0} (b : Bool) → (b ≡ true → X) → (b ≡ false → X) → X
-  split true p q = p refl
-  split false p q = q refl
+    split : {X : Type 0} (b : Bool) → (b ≡ true → X) → (b ≡ false → X) → X
+    split true p q = p refl
+    split false p q = q refl
 
 high-half : (ah al bh bl : ℕ) → (ah * 2 ^ 64 + al + (bh * 2 ^ 64 + bl)) / 2 ^ 64 % 2 ^ 64 ≡ (ah + bh + (al + bl) / 2 ^ 64) % 2 ^ 64
 high-half ah al bh bl = let e : (ah * 2 ^ 64 + al + (bh * 2 ^ 64 + bl)) / 2 ^ 64 ≡ ah + bh + (al + bl) / 2 ^ 64 = omega arith in rw e
@@ -58,3 +65,131 @@ sum-of-halves a b {ah} {al} {bh} {bl} {ls} {hs} {carry} p q r s ha la hb lb l c 
 pub halves-stored : (high low : ℕ) {o₁ o₂ : List ℕ} → o₁ ≡ putBe 8 (replicate 16 0) 0 high → o₂ ≡ putBe 8 o₁ 8 low → o₂ ≡ beBytes 8 high ++ beBytes 8 low
 unfolding putBe beBytes
 halves-stored high low p q = rw (q, p)
+
+-- ---- outputs
+
+-- what is prepared of a key: SM4's round keys, and nothing for SM3
+abbrev pub prepared : ℕ → List ℕ → List ℕ
+prepared algorithm key = cond (eqb algorithm algorithmSm4) (roundKeys (take 16 key)) (replicate 32 0)
+
+pub length-encrypted : (keys block : List ℕ) → length (encryptWith keys block) ≡ 16
+unfolding encryptWith reversed
+length-encrypted keys block = simp (length-append, length-beBytes)
+
+-- with 32 words and 16 bytes a block is encrypted
+pub encrypted : (keys block : List ℕ) {c : Cipher} → length keys ≡ 32 → length block ≡ 16 → c ≡ encryptAnswer keys block → c .block ≡ encryptWith keys block
+unfolding encryptAnswer
+encrypted keys block k b e = rw (e, k, b)
+
+pub prepared-keys : (key : List ℕ) {k : Keys} → 16 ≤ length key → k ≡ keysAnswer (take 16 key) → k .words ≡ prepared 4 key
+unfolding keysAnswer
+prepared-keys key h e = rw (e, length-take-le 16 key h)
+
+pub chain-more : (keys s : List ℕ) (i : ℕ) {out sum next : List ℕ} → 0 < i → out ≡ chain keys s (i - 1) → sum ≡ blockSum out (blockAt s i)
+    → next ≡ encryptWith keys sum → next ≡ chain keys s (i + 1 - 1)
+unfolding chain
+chain-more keys s zero h p q e = absurd (not-suc-le-zero h)
+chain-more keys s (suc i) h p q e =
+    let a : suc i - 1 ≡ i = omega arith in
+    let b : suc i + 1 - 1 ≡ suc i = omega arith in
+    rw (e, q, p, a, b)
+
+block-append : (s t : List ℕ) (i : ℕ) → 16 * (i + 1) ≤ length s → blockAt (s ++ t) i ≡ blockAt s i
+unfolding blockAt
+block-append s t i h =
+    let l : 16 ≤ length (drop (16 * i) s) = rw length-drop (omega arith) in
+    rw (drop-append-le (16 * i) s t (omega arith), take-append-le 16 (drop (16 * i) s) t l)
+
+-- the outputs of the first blocks do not see what follows them
+chain-append : (keys s t : List ℕ) (i : ℕ) → 16 * (i + 1) ≤ length s → chain keys (s ++ t) i ≡ chain keys s i
+unfolding chain
+chain-append keys s t zero h = rw (block-append s t 0 h)
+chain-append keys s t (suc i) h = rw (chain-append keys s t i (omega arith), block-append s t (suc i) h)
+
+-- under a key's round keys they are the definition's outputs
+chain-outputs : (key s : List ℕ) (i : ℕ) → chain (roundKeys (take 16 key)) s i ≡ outputOf key s i
+unfolding chain outputOf sm4Of
+chain-outputs key s zero = refl
+chain-outputs key s (suc i) = rw (chain-outputs key s i)
+
+-- ---- the buffers
+
+zeros-laid : (n : ℕ) (b : List ℕ) → length b ≤ n → put (replicate n 0) 0 b ≡ b ++ replicate (n - length b) 0
+zeros-laid n b h = rw (zero-add, drop-zeros (length b) n)
+  where
+    drop-zeros : (k n : ℕ) → drop k (replicate {A = ℕ} n 0) ≡ replicate (n - k) 0
+    drop-zeros zero n = let e : n - 0 ≡ n = omega arith in rw e
+    drop-zeros (suc k) zero = let e : 0 - suc k ≡ 0 = omega arith in rw e
+    drop-zeros (suc k) (suc n) = let e : suc n - suc k ≡ n - k = omega arith in rw e (drop-zeros k n)
+
+-- key and ID laid into zeros, up to the end of the filled ID
+pub hashed-bytes : (key id : List ℕ) (n : ℕ) {first all : List ℕ} → length key + max 16 (length id) ≤ n → first ≡ put (replicate n 0) 0 key
+    → all ≡ put first (0 + length key) id → take (0 + length key + max 16 (length id) - 0) (drop 0 all) ≡ key ++ filled id
+unfolding filled
+hashed-bytes key id n {first} {all} h p q =
+    let z = replicate {A = ℕ} n 0 in
+    let laid : all ≡ (key ++ id) ++ replicate (n - length (key ++ id)) 0 =
+    q ∙ rw p (put-on z 0 key id (rw (length-replicate n) (omega arith)) ∙ zeros-laid n (key ++ id) (rw length-append (omega arith))) in
+    let parts : replicate {A = ℕ} (n - length (key ++ id)) 0 ≡ replicate (16 - length id) 0 ++ replicate (n - length key - max 16 (length id)) 0 =
+    (let e : n - length (key ++ id) ≡ (16 - length id) + (n - length key - max 16 (length id)) = rw length-append (omega arith) in
+    rw e (sym (replicate-append-replicate (16 - length id) (n - length key - max 16 (length id)) 0))) in
+    let whole : all ≡ (key ++ (id ++ replicate (16 - length id) 0)) ++ replicate (n - length key - max 16 (length id)) 0 =
+    laid ∙ rw parts (simp append-assoc) in
+    rw whole
+    (take-at (key ++ (id ++ replicate (16 - length id) 0)) (replicate (n - length key - max 16 (length id)) 0) (0 + length key + max 16 (length id) - 0)
+    (rw (length-append, length-append, length-replicate) (omega arith)))
+
+-- the ID laid into zeros begins with the definition's blocks
+pub chained-of : (key id : List ℕ) {keys buffer out : List ℕ} {blocks : ℕ} → length id ≤ 44 → keys ≡ prepared 4 key
+    → buffer ≡ put (replicate 48 0) 0 id → blocks ≡ (0 + max 16 (length id) + 15) / 16 → out ≡ chain keys buffer (blocks - 1) → out ≡ chained key (filled id)
+unfolding chained filled toBlocks
+chained-of key id {keys} {buffer} {out} {blocks} h k b n o =
+    let f = id ++ replicate (16 - length id) 0 in
+    let more = (16 - length f % 16) % 16 in
+    let s = f ++ replicate more 0 in
+    let lf : length f ≡ max 16 (length id) = rw (length-append, length-replicate) (omega arith) in
+    let ls : length s ≡ 16 * blocks = rw (length-append, length-replicate, lf) (omega arith) in
+    let zeros : replicate {A = ℕ} (48 - length id) 0 ≡ replicate (16 - length id) 0 ++ (replicate more 0 ++ replicate (48 - 16 * blocks) 0) =
+    (let e : 48 - length id ≡ (16 - length id) + (more + (48 - 16 * blocks)) = omega arith in
+    rw (e, replicate-append-replicate more (48 - 16 * blocks), replicate-append-replicate (16 - length id) (more + (48 - 16 * blocks)))) in
+    let laid : buffer ≡ s ++ replicate (48 - 16 * blocks) 0 = b ∙ zeros-laid 48 id (omega arith) ∙ rw zeros (simp append-assoc) in
+    let last : length s / 16 - 1 ≡ blocks - 1 = omega arith in
+    let room : 16 * (blocks - 1 + 1) ≤ length s = omega arith in
+    rw last (o ∙ rw (laid, k) (chain-append (roundKeys (take 16 key)) s (replicate (48 - 16 * blocks) 0) (blocks - 1) room ∙ chain-outputs key s (blocks - 1)))
+
+pub length-prepared : (algorithm : ℕ) (key : List ℕ) → length (prepared algorithm key) ≡ 32
+length-prepared algorithm key = pick (eqb algorithm algorithmSm4)
+  where
+    pick : (b : Bool) → length (cond b (roundKeys (take 16 key)) (replicate 32 0)) ≡ 32
+    pick true = length-roundKeys (take 16 key)
+    pick false = refl
+
+pub prepared-cipher : (algorithm : ℕ) (key : List ℕ) {k : Keys} → algorithm ≡ algorithmSm4 → 16 ≤ length key → k ≡ keysAnswer (take 16 key)
+    → (length (k .words) ≡ 32) × (k .words ≡ prepared algorithm key)
+prepared-cipher algorithm key {k} a h e =
+    let w : k .words ≡ prepared algorithm key = rw a (prepared-keys key h e) in
+    (ap length w ∙ length-prepared algorithm key, w)
+
+pub prepared-hash : (algorithm : ℕ) (key : List ℕ) → (algorithm ≡ algorithmSm4 → ⊥) → (_≡_ {A = ℕ} 32 32) × (replicate 32 0 ≡ prepared algorithm key)
+prepared-hash algorithm key h = (refl, rw (ne-eqb algorithm algorithmSm4 h))
+
+pub block-length : (s : List ℕ) (i : ℕ) → 16 * i + 16 ≤ length s → length (blockAt s i) ≡ 16
+unfolding blockAt
+block-length s i h = length-take-le 16 (drop (16 * i) s) (rw length-drop (omega arith))
+
+-- a part of a slice is a block
+pub block-part : (s : List ℕ) (i : ℕ) → take (16 * i + 16 - 16 * i) (drop (16 * i) s) ≡ blockAt s i
+unfolding blockAt
+block-part s i = let e : 16 * i + 16 - 16 * i ≡ 16 = omega arith in rw e
+
+-- the hash of what was laid
+pub hashed-of : (key id : List ℕ) {first buffer : List ℕ} {at end : ℕ} {h : Hash} {r : ℕ} → length key ≤ 32 → length id ≤ 44
+    → at ≡ 0 + length key → first ≡ put (replicate 76 0) 0 key → end ≡ at + max 16 (length id) → buffer ≡ put first at id
+    → h ≡ sm3Answer (take (end - 0) (drop 0 buffer)) → r ≡ cut (h .digest) → r ≡ cut (sm3Of (key ++ filled id))
+unfolding sm3Answer
+hashed-of key id {first} {buffer} {at} {end} {h} {r} k l a f e b s c =
+    let m : take (end - 0) (drop 0 buffer) ≡ key ++ filled id =
+    rw (e, a) (hashed-bytes key id 76 (omega arith) f (rw a at b)) in
+    let small : length (key ++ filled id) < 2 ^ 32 = rw (← m, length-take) (omega arith) in
+    let d : h .digest ≡ sm3Of (key ++ filled id) = rw (s, m, lt-ltb (length (key ++ filled id)) (2 ^ 32) small) in
+    c ∙ rw d

@@ -1,10 +1,10 @@
 -- Laws of what is laid into a buffer of zeros.
-use Prim.Native.Nat.{ℕ, zero, suc, _+_, _-_, _*_, _/_, _%_, _≤_, _<_, max, zero-le}
-use mathlib.Core.Path.{_≡_, refl, sym, ap, _∙_}
-use mathlib.Core.List.{List, [], _∷_, _++_, append-assoc, append-nil}
+use Prim.Native.Nat.{ℕ, _+_, _-_, _≤_, zero-le}
+use mathlib.Core.Path.{_≡_, refl, sym, _∙_}
+use mathlib.Core.List.{List, [], _++_, append-assoc, append-nil}
 use native.Mathlib.Nat.{add-zero}
 use native.Mathlib.Omega.{arith}
-use lib.ListN.{length, take, drop, replicate, length-append, length-drop, length-replicate, take-append-drop, drop-of-length-le}
+use lib.ListN.{length, take, drop, length-append, length-drop, take-append-drop, drop-of-length-le}
 use lib.Seq.{length-take-le, take-at, drop-at, drop-drop, take-length}
 use Rattle.words.specs.Bytes.{putBe}
 use Rattle.words.specs.BytesLaws.{length-beBytes, putBe-is}
@@ -29,9 +29,9 @@ put-on s at a b h =
     let whole : put s at a ≡ (take at s ++ a) ++ drop (at + length a) s = sym (append-assoc (take at s) a (drop (at + length a) s)) in
     let front : take (at + length a) (put s at a) ≡ take at s ++ a = rw whole (take-at (take at s ++ a) (drop (at + length a) s) (at + length a) l) in
     let back : drop (at + length a + length b) (put s at a) ≡ drop (at + length (a ++ b)) s =
-      (let e : at + length (a ++ b) ≡ at + length a + length b = rw length-append (omega arith) in
-      rw (e, ← drop-drop (length b) (at + length a) (put s at a), whole, drop-at (take at s ++ a) (drop (at + length a) s) (at + length a) l)
-      (drop-drop (length b) (at + length a) s)) in
+    (let e : at + length (a ++ b) ≡ at + length a + length b = rw length-append (omega arith) in
+    rw (e, ← drop-drop (length b) (at + length a) (put s at a), whole, drop-at (take at s ++ a) (drop (at + length a) s) (at + length a) l)
+    (drop-drop (length b) (at + length a) s)) in
     rw (front, back) (simp append-assoc)
 
 -- a part of a lent buffer, copied over and given back

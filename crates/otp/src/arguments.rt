@@ -41,7 +41,14 @@ fn challenge_ok(challenge: &[u8]) -> bool
     (n == 0) | (((4 <= n) & (n <= 32)) & printable(challenge))
 }
 
-pub(crate) fn arguments_ok(algorithm: u8, key: &[u8], time: Factor, count: Factor, challenge: &[u8], digits: usize) -> bool
+pub(crate) fn arguments_ok(
+    algorithm: u8,
+    key: &[u8],
+    time: Factor,
+    count: Factor,
+    challenge: &[u8],
+    digits: usize,
+) -> bool
     ensures { λ r. ⌜ r ≡ argumentsOk algorithm (now (key .entry)) time count (now (challenge .entry)) digits ⌝ }
 {
     let n = key.len();

@@ -36,7 +36,13 @@ pub(crate) fn put_bytes(out: &mut [u8], at: usize, part: &[u8]) -> usize
 }
 
 // Puts the ID at at, and answers where it ends once it is filled to 16 bytes.
-pub(crate) fn put_id(out: &mut [u8], at: usize, time: Factor, count: Factor, challenge: &[u8]) -> usize
+pub(crate) fn put_id(
+    out: &mut [u8],
+    at: usize,
+    time: Factor,
+    count: Factor,
+    challenge: &[u8],
+) -> usize
     requires { ⌜ length (now challenge) ≤ 32 ⌝ }
     requires { ⌜ at + 44 ≤ length (now out) ⌝ }
     ensures { λ r. ⌜ r ≡ at + max 16 (length (idOf time count (now (challenge .entry)))) ⌝ }
@@ -45,9 +51,5 @@ pub(crate) fn put_id(out: &mut [u8], at: usize, time: Factor, count: Factor, cha
     let after_time = put_factor(out, at, 8, time);
     let after_count = put_factor(out, after_time, 4, count);
     let end = put_bytes(out, after_count, challenge);
-    if end < at + 16 {
-        at + 16
-    } else {
-        end
-    }
+    if end < at + 16 { at + 16 } else { end }
 }

@@ -2,15 +2,10 @@ use borrow.Author.Needs.{needs}
 use Rattle.otp.specs.Password.{challengeOk}
 use Rattle.otp.proofs.arguments.challenge_ok.Statement.{statement}
 use Rattle.otp.proofs.arguments.challenge_ok.Tie as tie
-use Rattle.otp.proofs.arguments.challenge_ok.Reads as reads
-use Rattle.otp.proofs.arguments.challenge_ok.Lts as lts
-use Rattle.otp.proofs.arguments.printable.Reads as printable-reads
 
--- src/arguments.rt:41:42
 printable-requires : tie.Need-printable-requires
 printable-requires c κs = search needs
 
--- src/arguments.rt:37:1
 returns : tie.Need-returns
 unfolding challengeOk
 returns c = rw (c .printable .ensures)

@@ -1,16 +1,12 @@
-use Prim.Native.Nat.{_+_, _*_, _≤_, _-_, _/_, _%_, _^_, _<_}
-use mathlib.Core.Path.{_≡_, refl, sym, _∙_}
+use Prim.Native.Nat.{_≤_, _-_}
+use mathlib.Core.Path.{_≡_, sym, _∙_}
 use mathlib.Core.Bool.{_&&_}
-use mathlib.Core.List.{_++_}
 use borrow.Author.Needs.{needs}
-use native.Mathlib.Omega.{arith}
-use lib.ListN.{length, drop, length-set}
+use lib.ListN.{length, drop}
 use Rattle.otp.specs.Password.{printable}
 use Rattle.otp.specs.PasswordLaws.{printable-more, printable-end}
 use Rattle.otp.proofs.arguments.printable.Statement.{statement}
 use Rattle.otp.proofs.arguments.printable.Tie as tie
-use Rattle.otp.proofs.arguments.printable.Reads as reads
-use Rattle.otp.proofs.arguments.printable.Lts as lts
 
 abbrev Inv-loop : tie.InvT-loop
 Inv-loop challenge clean₀ i₀ clean i = (i ≤ length challenge) × (clean && printable (drop i challenge) ≡ printable challenge)
@@ -18,31 +14,24 @@ Inv-loop challenge clean₀ i₀ clean i = (i ≤ length challenge) × (clean &&
 abbrev μ-loop : tie.MeasureT-loop
 μ-loop challenge clean₀ i₀ clean i = length challenge - i
 
--- src/arguments.rt:30:5
 loop-holds : tie.Need-loop-holds Inv-loop μ-loop
 loop-holds c = search needs
 
--- src/arguments.rt:31:35
 shared-slice-read-clean : tie.Need-shared-slice-read-clean Inv-loop μ-loop
 shared-slice-read-clean c = search needs
 
--- src/arguments.rt:31:52
 shared-slice-read-clean-2 : tie.Need-shared-slice-read-clean-2 Inv-loop μ-loop
 shared-slice-read-clean-2 c = search needs
 
--- src/arguments.rt:32:9
 add-i : tie.Need-add-i Inv-loop μ-loop
 add-i c = search needs
 
--- src/arguments.rt:30:5
 loop-less : tie.Need-loop-less Inv-loop μ-loop
 loop-less c = search needs
 
--- src/arguments.rt:30:5
 loop-again : tie.Need-loop-again Inv-loop μ-loop
 loop-again c = (search needs, sym (printable-more (c .before .before .before .before .args .challenge .now) (c .before .before .before .loop .i) (c .before .before .before .loop .clean) (c .before .before .loop-test .taken)) ∙ c .before .before .before .loop .inv .1)
 
--- src/arguments.rt:25:1
 returns : tie.Need-returns Inv-loop μ-loop
 returns c = sym (printable-end (c .before .before .args .challenge .now) (c .before .loop .i) (c .before .loop .clean) (c .loop-test .left)) ∙ c .before .loop .inv .1
 

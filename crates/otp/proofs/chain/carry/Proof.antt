@@ -1,14 +1,10 @@
 use borrow.Author.Tests.{lt-ltb, le-ltb}
 use Rattle.otp.proofs.chain.carry.Statement.{statement}
 use Rattle.otp.proofs.chain.carry.Tie as tie
-use Rattle.otp.proofs.chain.carry.Reads as reads
-use Rattle.otp.proofs.chain.carry.Lts as lts
 
--- src/chain.rt:15:1
 returns : tie.Need-returns
 returns c = rw (lt-ltb (c .before .args .sum) (c .before .args .term) (c .if1 .taken))
 
--- src/chain.rt:15:1
 returns-2 : tie.Need-returns-2
 returns-2 c = rw (le-ltb (c .before .args .sum) (c .before .args .term) (c .if1 .left))
 

@@ -1,6 +1,5 @@
-use Prim.Native.Nat.{_+_, _*_, _≤_, _-_, _/_, _%_, _^_, _<_}
-use mathlib.Core.Path.{_≡_, refl, sym, _∙_}
-use mathlib.Core.Bool.{_&&_}
+use Prim.Native.Nat.{_+_, _≤_, _-_}
+use mathlib.Core.Path.{_≡_, sym, _∙_}
 use mathlib.Core.List.{_++_}
 use borrow.Author.Needs.{needs}
 use native.Mathlib.Omega.{arith}
@@ -9,8 +8,6 @@ use Rattle.otp.specs.Password.{decimals}
 use Rattle.otp.specs.PasswordLaws.{decimals-last, decimals-none}
 use Rattle.otp.proofs.cut.put_decimals.Statement.{statement}
 use Rattle.otp.proofs.cut.put_decimals.Tie as tie
-use Rattle.otp.proofs.cut.put_decimals.Reads as reads
-use Rattle.otp.proofs.cut.put_decimals.Lts as lts
 
 abbrev Inv-loop : tie.InvT-loop
 Inv-loop x n out₀ left₀ rest₀ out left rest = (left ≤ n) × ((length out ≡ length out₀) × (decimals left rest ++ drop left out ≡ decimals n x ++ drop n out₀))
@@ -18,39 +15,30 @@ Inv-loop x n out₀ left₀ rest₀ out left rest = (left ≤ n) × ((length out
 abbrev μ-loop : tie.MeasureT-loop
 μ-loop x n out₀ left₀ rest₀ out left rest = left
 
--- src/cut.rt:31:5
 loop-holds : tie.Need-loop-holds Inv-loop μ-loop
 loop-holds c = search needs
 
--- src/cut.rt:32:9
 sub-left : tie.Need-sub-left Inv-loop μ-loop
 sub-left c = search needs
 
--- src/cut.rt:33:26
 cast-out : tie.Need-cast-out Inv-loop μ-loop
 cast-out c = search needs
 
--- src/cut.rt:33:21
 add-out : tie.Need-add-out Inv-loop μ-loop
 add-out c = search needs
 
--- src/cut.rt:33:9
 slice-write-out : tie.Need-slice-write-out Inv-loop μ-loop
 slice-write-out c = let l = c .before .loop .inv .1 .0 in omega arith
 
--- src/cut.rt:31:5
 loop-less : tie.Need-loop-less Inv-loop μ-loop
 loop-less c = search needs
 
--- src/cut.rt:31:5
 loop-again : tie.Need-loop-again Inv-loop μ-loop
 loop-again c = (search needs, (rw length-set (c .before .loop .inv .1 .0), sym (decimals-last (c .before .loop .out) (c .before .loop .left) (c .before .loop .rest) (c .loop-test .taken) (omega arith)) ∙ c .before .loop .inv .1 .1))
 
--- src/cut.rt:25:1
 same-length : tie.Need-same-length Inv-loop μ-loop
 same-length c = search needs
 
--- src/cut.rt:25:1
 returns : tie.Need-returns Inv-loop μ-loop
 returns c = sym (decimals-none (c .before .loop .out) (c .before .loop .left) (c .before .loop .rest) (c .loop-test .left)) ∙ c .before .loop .inv .1 .1
 

@@ -1,42 +1,28 @@
 use borrow.Author.Needs.{needs}
-use Prim.Native.Nat.{_+_, _*_, _≤_, _-_, _/_, _%_, _^_, _<_}
-use mathlib.Core.Path.{_≡_, refl, sym, _∙_}
-use mathlib.Core.Bool.{_&&_}
-use mathlib.Core.List.{_++_}
-use native.Mathlib.Omega.{arith}
-use lib.ListN.{length, drop, length-set}
+use Prim.Native.Nat.{_-_}
+use mathlib.Core.Path.{refl}
 use Rattle.otp.specs.IdLaws.{put-part}
 use Rattle.otp.proofs.id.put_bytes.Statement.{statement}
 use Rattle.otp.proofs.id.put_bytes.Tie as tie
-use Rattle.otp.proofs.id.put_bytes.Reads as reads
-use Rattle.otp.proofs.id.put_bytes.Lts as lts
-use Rattle.bytes.proofs.copy.Reads as copy-reads
 
--- src/id.rt:33:15
 add-end : tie.Need-add-end
 add-end c = search needs
 
--- src/id.rt:34:16
 sub-copy : tie.Need-sub-copy
 sub-copy c = search needs
 
--- src/id.rt:34:16
 part-copy-start : tie.Need-part-copy-start
 part-copy-start c = search needs
 
--- src/id.rt:34:16
 part-copy-end : tie.Need-part-copy-end
 part-copy-end c = search needs
 
--- src/id.rt:34:5
 copy-requires : tie.Need-copy-requires
 copy-requires c κs = search needs
 
--- src/id.rt:28:1
 same-length : tie.Need-same-length
 same-length c = search needs
 
--- src/id.rt:28:1
 returns : tie.Need-returns
 returns c = (refl, put-part (c .before .before .before .before .before .before .args .out .now) (c .before .before .before .before .before .before .args .at) (c .before .before .before .before .before .before .args .part .now) (c .before .before .before .before .before .before .pre) (c .before .before .copy .ensures .1))
 

@@ -1,42 +1,27 @@
 use borrow.Author.Needs.{needs}
-use Prim.Native.Nat.{_+_, _*_, _≤_, _-_, _/_, _%_, _^_, _<_}
-use mathlib.Core.Path.{_≡_, refl, sym, _∙_}
-use mathlib.Core.Bool.{_&&_}
-use mathlib.Core.List.{_++_}
-use native.Mathlib.Omega.{arith}
-use lib.ListN.{length, drop, length-set}
+use Prim.Native.Nat.{_-_}
 use Rattle.otp.specs.IdLaws.{factor-absent, factor-present}
 use Rattle.otp.proofs.id.put_factor.Statement.{statement}
 use Rattle.otp.proofs.id.put_factor.Tie as tie
-use Rattle.otp.proofs.id.put_factor.Reads as reads
-use Rattle.otp.proofs.id.put_factor.Lts as lts
-use Rattle.words.proofs.bytes.put_be.Reads as put-be-reads
 
--- src/id.rt:19:27
 enum-told : tie.Need-enum-told
 enum-told c = search needs
 
--- src/id.rt:20:25
 enum-known-factor : tie.Need-enum-known-factor
 enum-known-factor c = search needs
 
--- src/id.rt:21:13
 put-be-requires : tie.Need-put-be-requires
 put-be-requires c κs = search needs
 
--- src/id.rt:22:13
 add-result : tie.Need-add-result
 add-result c = search needs
 
--- src/id.rt:13:1
 returns : tie.Need-returns
 returns c = rw (c .enum-told .given .1) (factor-absent (c .before .before .before .args .width) (c .before .before .before .args .at) (c .before .before .before .args .out .now))
 
--- src/id.rt:13:1
 same-length : tie.Need-same-length
 same-length c = search needs
 
--- src/id.rt:13:1
 returns-2 : tie.Need-returns-2
 returns-2 c = rw (c .before .before .before .before .before .factor .given .1) (factor-present (c .before .before .before .before .before .before .before .before .args .width) (c .before .before .before .before .before .before .before .before .args .at) (c .before .before .before .before .before .factor .given .0 .0) (c .before .before .before .before .before .before .before .before .args .out .now) (c .before .before .before .before .before .before .before .before .pre) (c .before .before .put-be .ensures))
 

@@ -1,52 +1,35 @@
 use borrow.Author.Needs.{needs}
-use Prim.Native.Nat.{_+_, _*_, _≤_, _-_, _/_, _%_, _^_, _<_}
-use mathlib.Core.Path.{_≡_, refl, sym, _∙_}
-use mathlib.Core.Bool.{_&&_}
-use mathlib.Core.List.{_++_}
+use Prim.Native.Nat.{_-_}
 use native.Mathlib.Omega.{arith}
-use lib.ListN.{length, drop, length-set}
 use Rattle.otp.specs.IdLaws.{put-id, factor-length}
 use Rattle.otp.proofs.id.put_id.Statement.{statement}
 use Rattle.otp.proofs.id.put_id.Tie as tie
-use Rattle.otp.proofs.id.put_id.Reads as reads
-use Rattle.otp.proofs.id.put_id.Lts as lts
-use Rattle.otp.proofs.id.put_bytes.Reads as put-bytes-reads
-use Rattle.otp.proofs.id.put_factor.Reads as put-factor-reads
 
--- src/id.rt:45:9
 put-factor-requires : tie.Need-put-factor-requires
 put-factor-requires c κs = search needs
 
--- src/id.rt:46:9
 put-factor-requires-2 : tie.Need-put-factor-requires-2
 put-factor-requires-2 c κs = omega (arith, c .before .before .before .put-factor .ensures .0, factor-length 8 (c .before .before .before .before .before .before .before .args .time), c .before .before .before .put-factor .kept .0)
 
--- src/id.rt:47:9
 put-bytes-requires : tie.Need-put-bytes-requires
 put-bytes-requires c κs = omega (arith, c .before .before .before .before .before .before .before .put-factor .ensures .0, factor-length 8 (c .before .before .before .before .before .before .before .before .before .before .before .args .time), c .before .before .before .before .before .before .before .put-factor .kept .0, c .before .before .before .put-factor2 .ensures .0, factor-length 4 (c .before .before .before .before .before .before .before .before .before .before .before .args .count), c .before .before .before .put-factor2 .kept .0)
 
--- src/id.rt:48:14
 add-if1 : tie.Need-add-if1
 add-if1 c = search needs
 
--- src/id.rt:49:9
 add-result : tie.Need-add-result
 add-result c = search needs
 
--- src/id.rt:39:1
 same-length : tie.Need-same-length
 same-length c = search needs
 
--- src/id.rt:39:1
 returns : tie.Need-returns
 returns c = let all = put-id (c .before .before .before .before .before .before .before .before .before .before .before .before .before .before .before .args .out .now) (c .before .before .before .before .before .before .before .before .before .before .before .before .before .before .before .args .at) (c .before .before .before .before .before .before .before .before .before .before .before .before .before .before .before .args .time) (c .before .before .before .before .before .before .before .before .before .before .before .before .before .before .before .args .count) (c .before .before .before .before .before .before .before .before .before .before .before .before .before .before .before .args .challenge .now) (c .before .before .before .before .before .before .before .before .before .before .before .before .before .before .before .pre .1) (c .before .before .before .before .before .before .before .before .before .before .before .before .before .before .before .pre .0) (c .before .before .before .before .before .before .before .before .before .before .before .put-factor .ensures .0) (c .before .before .before .before .before .before .before .before .before .before .before .put-factor .ensures .1) (c .before .before .before .before .before .before .before .put-factor2 .ensures .0) (c .before .before .before .before .before .before .before .put-factor2 .ensures .1) (c .before .before .before .put-bytes .ensures .0) (c .before .before .before .put-bytes .ensures .1) in
     (omega (arith, all .0), all .1)
 
--- src/id.rt:39:1
 same-length-2 : tie.Need-same-length-2
 same-length-2 c = search needs
 
--- src/id.rt:39:1
 returns-2 : tie.Need-returns-2
 returns-2 c = let all = put-id (c .before .before .before .before .before .before .before .before .before .before .before .before .before .before .before .args .out .now) (c .before .before .before .before .before .before .before .before .before .before .before .before .before .before .before .args .at) (c .before .before .before .before .before .before .before .before .before .before .before .before .before .before .before .args .time) (c .before .before .before .before .before .before .before .before .before .before .before .before .before .before .before .args .count) (c .before .before .before .before .before .before .before .before .before .before .before .before .before .before .before .args .challenge .now) (c .before .before .before .before .before .before .before .before .before .before .before .before .before .before .before .pre .1) (c .before .before .before .before .before .before .before .before .before .before .before .before .before .before .before .pre .0) (c .before .before .before .before .before .before .before .before .before .before .before .put-factor .ensures .0) (c .before .before .before .before .before .before .before .before .before .before .before .put-factor .ensures .1) (c .before .before .before .before .before .before .before .put-factor2 .ensures .0) (c .before .before .before .before .before .before .before .put-factor2 .ensures .1) (c .before .before .before .put-bytes .ensures .0) (c .before .before .before .put-bytes .ensures .1) in
     (omega (arith, all .0), all .1)

@@ -1,0 +1,22 @@
+use borrow.Author.Needs.{needs}
+use mathlib.Core.Path.{_∙_}
+use lib.ListN.{drop}
+use Rattle.otp.specs.PasswordLaws.{password-shown}
+use Rattle.otp.proofs.password_with.Statement.{statement}
+use Rattle.otp.proofs.password_with.Tie as tie
+
+truncated-requires : tie.Need-truncated-requires
+truncated-requires c κs = search needs
+
+put-decimals-requires : tie.Need-put-decimals-requires
+put-decimals-requires c κs = search needs
+
+same-length : tie.Need-same-length
+same-length c = search needs
+
+returns : tie.Need-returns
+returns c = c .before .before .put-decimals .ensures ∙ password-shown (c .before .before .before .before .before .before .before .before .before .args .algorithm) (c .before .before .before .before .before .before .before .before .before .args .key .now) (c .before .before .before .before .before .before .before .before .before .args .time) (c .before .before .before .before .before .before .before .before .before .args .count) (c .before .before .before .before .before .before .before .before .before .args .challenge .now) (c .before .before .before .before .before .before .before .before .before .args .digits) (drop (c .before .before .before .before .before .before .before .before .before .args .digits) (c .before .before .before .before .before .before .before .before .before .args .out .now)) (c .before .before .before .before .truncated .ensures)
+
+pub password-with-spec : {M : Type 1} → statement M
+password-with-spec =
+    tie.close (tie.spec truncated-requires put-decimals-requires same-length returns)
