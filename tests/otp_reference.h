@@ -189,16 +189,14 @@ static inline int otp_read_number(struct otp_field field, uint64_t most, uint64_
     return 1;
 }
 
-// The value of a hexadecimal digit, or -1.
+// The value of a hexadecimal digit, or -1. A table, since digits and letters in random order mislead a row of branches.
 static inline int otp_hex_digit(char c)
 {
-    if (c >= '0' && c <= '9')
-        return c - '0';
-    if (c >= 'a' && c <= 'f')
-        return c - 'a' + 10;
-    if (c >= 'A' && c <= 'F')
-        return c - 'A' + 10;
-    return -1;
+    static const signed char one_more[256] = {
+        ['0'] = 1, ['1'] = 2, ['2'] = 3, ['3'] = 4, ['4'] = 5, ['5'] = 6, ['6'] = 7, ['7'] = 8, ['8'] = 9, ['9'] = 10,
+        ['a'] = 11, ['b'] = 12, ['c'] = 13, ['d'] = 14, ['e'] = 15, ['f'] = 16,
+        ['A'] = 11, ['B'] = 12, ['C'] = 13, ['D'] = 14, ['E'] = 15, ['F'] = 16};
+    return one_more[(unsigned char)c] - 1;
 }
 
 static inline int otp_read_key(struct otp_field field, uint8_t key[OTP_MOST_KEY])
