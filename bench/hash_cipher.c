@@ -1,35 +1,18 @@
-// The hash and the cipher beside OpenSSL and libgcrypt: prints a table of the best times of many interleaved rounds.
+// The hash and the cipher beside OpenSSL and libgcrypt: prints rows of the report's table.
 #define _POSIX_C_SOURCE 200809L
 #include "dykeladder.h"
+#include "racing.h"
 
 #include <gcrypt.h>
 #include <openssl/evp.h>
-#include <stdio.h>
-#include <stdlib.h>
-#include <string.h>
-#include <time.h>
 
 enum { MESSAGE = 32, LONG_MESSAGE = 1 << 24, KEY = DL_SM4_KEY_BYTES, BLOCK = DL_SM4_BLOCK_BYTES };
 
-// A function to measure; its input is varied by the call's number, and its result stands in `out`.
-struct contestant {
-    const char *name;
-    void (*call)(uint64_t number);
-    double best;  // nanoseconds a call
-    uint64_t sum; // of the results, the same for all contestants of a race
-};
-
-static uint8_t message[MESSAGE], long_message[LONG_MESSAGE], key[KEY], block[BLOCK], out[DL_SM3_DIGEST_BYTES];
+static uint8_t message[MESSAGE], long_message[LONG_MESSAGE], key[KEY], block[BLOCK];
 static uint32_t round_keys[DL_SM4_ROUND_KEYS];
 static EVP_CIPHER *sm4;
 static EVP_CIPHER_CTX *keyed_each_time, *keyed_once;
 static gcry_cipher_hd_t gcrypt_keyed_once;
-
-static void die(const char *why)
-{
-    printf("cannot go on: %s\n", why);
-    exit(2);
-}
 
 static void put_number(uint8_t *to, uint64_t number)
 {
@@ -104,25 +87,17 @@ static void gcrypt_sm4_keyed(uint64_t number)
 
 // ---- the races
 
-struct race {
-    const char *what;
-    int rounds;     // in a pass over all races
-    uint64_t calls; // in a round: about a millisecond, so that many rounds run undisturbed
-    struct contestant contestants[3]; // ours first
-    double target[3]; // the peer's time over ours; 0: none
-};
-
 static struct race races[] = {
-    {"SM3, 32 bytes", 30, 2000,
+    {"SM3, 32 bytes", 30, 2000, 1,
      {{"dl_sm3", ours_sm3, 0, 0}, {"libgcrypt", gcrypt_sm3, 0, 0}, {"OpenSSL EVP_Digest", openssl_sm3, 0, 0}},
      {0, 1.0, 2.5}},
-    {"SM3, 16 MiB", 4, 1,
+    {"SM3, 16 MiB", 4, 1, 1,
      {{"dl_sm3", ours_long_sm3, 0, 0}, {"OpenSSL EVP_Digest", openssl_long_sm3, 0, 0}},
      {0, 1.0}},
-    {"SM4 block, key set each time", 30, 2000,
+    {"SM4 block, key set each time", 30, 2000, 1,
      {{"dl_sm4", ours_sm4, 0, 0}, {"OpenSSL EVP", openssl_sm4, 0, 0}},
      {0, 1.3}},
-    {"SM4 block, round keys once", 30, 2000,
+    {"SM4 block, round keys once", 30, 2000, 1,
      {{"dl_sm4_encrypt", ours_sm4_keyed, 0, 0}, {"OpenSSL EVP_EncryptUpdate", openssl_sm4_keyed, 0, 0},
       {"libgcrypt", gcrypt_sm4_keyed, 0, 0}},
      {0, 1.0, 0}},
@@ -155,65 +130,9 @@ static void set_up(void)
         die("libgcrypt has no SM4");
 }
 
-// Processor time, so that other processes of the machine count less.
-static double nanoseconds(void)
-{
-    struct timespec t;
-    clock_gettime(CLOCK_PROCESS_CPUTIME_ID, &t);
-    return (double)t.tv_sec * 1e9 + (double)t.tv_nsec;
-}
-
-static void run_round(struct contestant *contestant, uint64_t calls)
-{
-    uint64_t sum = 0, result;
-    double start = nanoseconds();
-    for (uint64_t number = 0; number < calls; number++) {
-        contestant->call(number);
-        memcpy(&result, out, sizeof result);
-        sum += result;
-    }
-    double each = (nanoseconds() - start) / (double)calls;
-    if (contestant->best == 0 || each < contestant->best)
-        contestant->best = each;
-    contestant->sum = sum;
-}
-
-// The contestants take turns, so that what slows the machine for a while slows them all.
-static void run_race(struct race *race)
-{
-    struct contestant *all = race->contestants;
-    for (int round = 0; round < race->rounds; round++)
-        for (int i = 0; i < 3 && all[i].call != NULL; i++)
-            run_round(&all[i], race->calls);
-    for (int i = 1; i < 3 && all[i].call != NULL; i++)
-        if (all[i].sum != all[0].sum)
-            die("two contestants gave different results");
-}
-
-static void print_race(const struct race *race)
-{
-    const struct contestant *ours = &race->contestants[0];
-    for (int i = 1; i < 3 && race->contestants[i].call != NULL; i++) {
-        const struct contestant *peer = &race->contestants[i];
-        double ratio = peer->best / ours->best, target = race->target[i];
-        char wanted[16] = "none";
-        if (target > 0)
-            snprintf(wanted, sizeof wanted, "%.1f", target);
-        printf("| %-28s | %-14s | %10.0f | %-25s | %10.0f | %11.2f | %6s | %-3s |\n", race->what, ours->name, ours->best,
-               peer->name, peer->best, ratio, wanted, target == 0 ? "-" : ratio >= target ? "yes" : "NO");
-    }
-}
-
 int main(void)
 {
     set_up();
-    const size_t passes = 10, n = sizeof races / sizeof *races;
-    for (size_t i = 0; i < passes * n; i++)
-        run_race(&races[i % n]);
-    printf("| %-28s | %-14s | %10s | %-25s | %10s | %11s | %6s | %-3s |\n", "Operation", "Ours", "Ours, ns", "Peer",
-           "Peer, ns", "Peer / ours", "Target", "Met");
-    printf("|---|---|--:|---|--:|--:|--:|---|\n");
-    for (size_t i = 0; i < n; i++)
-        print_race(&races[i]);
+    run_races(races, sizeof races / sizeof *races, 10);
     return 0;
 }

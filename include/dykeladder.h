@@ -1,11 +1,12 @@
 /*
- * Dykeladder: the hash SM3 (GB/T 32905-2016) and the cipher SM4
- * (GB/T 32907-2016) of the release-signing token desk.
+ * Dykeladder: the hash SM3 (GB/T 32905-2016), the cipher SM4
+ * (GB/T 32907-2016) and the one-time password (GM/T 0021-2012) of the
+ * release-signing token desk.
  *
  * Every buffer is lent as a pointer and a length in elements, and every call
  * returns one code. DL_DONE: the result is written and every byte past it is
- * as it was. DL_BAD_ARGUMENT: a length is out of range and nothing is
- * written. There is no length that the caller has to filter beforehand.
+ * as it was. DL_BAD_ARGUMENT: a length or a value is out of range and nothing
+ * is written. There is none that the caller has to filter beforehand.
  *
  * The pointers are the caller's part: each must point to as many elements as
  * its length says and must not be null, not even for a length of 0; a buffer
@@ -26,13 +27,18 @@ extern "C" {
 
 /* Codes. */
 #define DL_DONE         0x0000 /* the result is written */
-#define DL_BAD_ARGUMENT 0x9005 /* a length is out of range; nothing is written */
+#define DL_BAD_ARGUMENT 0x9005 /* an argument is out of range; nothing is written */
 
 /* Lengths. */
 #define DL_SM3_DIGEST_BYTES 32
 #define DL_SM4_KEY_BYTES    16
 #define DL_SM4_BLOCK_BYTES  16
 #define DL_SM4_ROUND_KEYS   32 /* words of 32 bits */
+#define DL_MOST_DIGITS      10 /* of a password */
+
+/* Algorithms of a password. */
+#define DL_ALGORITHM_SM3 3
+#define DL_ALGORITHM_SM4 4
 
 /*
  * The SM3 hash of a message.
@@ -85,6 +91,32 @@ uint16_t dl_sm4_keys(const uint8_t *key, size_t key_len,
 uint16_t dl_sm4_encrypt(const uint32_t *keys, size_t keys_len,
                         const uint8_t *block, size_t block_len,
                         uint8_t *out, size_t out_len);
+
+/*
+ * The one-time password of GM/T 0021-2012, clause 6, from a key and a time
+ * step, a count or both, with or without a challenge.
+ *
+ *   algorithm  DL_ALGORITHM_SM3 or DL_ALGORITHM_SM4
+ *   key        key_len is 16 to 32; SM4 uses the first 16 bytes
+ *   has_time   0: the time step is absent, and `time` is not looked at;
+ *              anything else: it is present
+ *   time       the time step T, any value
+ *   has_count  as has_time, for `count`; a time step or a count is needed
+ *   count      the count C, any value
+ *   challenge  the challenge Q; challenge_len is 4 to 32 and each byte 0x21 to
+ *              0x7e, or challenge_len is 0 and the challenge absent
+ *   digits     6 to 10
+ *   out        takes the password as `digits` ASCII digits, leading zeros
+ *              included, in its first bytes, with no zero byte behind them;
+ *              out_len is `digits` or more
+ *
+ * Returns DL_DONE or DL_BAD_ARGUMENT.
+ */
+uint16_t dl_password(uint8_t algorithm, const uint8_t *key, size_t key_len,
+                     uint8_t has_time, uint64_t time,
+                     uint8_t has_count, uint32_t count,
+                     const uint8_t *challenge, size_t challenge_len,
+                     uint8_t digits, uint8_t *out, size_t out_len);
 
 #ifdef __cplusplus
 }

@@ -2,47 +2,13 @@
 //   hash_cipher         the full run: 20,000 random cases to a test
 //   hash_cipher COUNT   the short run, for valgrind: COUNT cases, no long messages
 #define _DEFAULT_SOURCE
-#include "dykeladder.h"
-#include "testing.h"
+#include "lending.h"
 
 #include <openssl/evp.h>
-#include <sys/mman.h>
 
 static size_t cases = 20000;
 
-// ---- the output that is lent to a call
-
-enum { BEFORE = 16, ROOM = 512, WORD = 4, MOST_LENGTH = 40, MOST_OUT = 20 };
-
-// The lent output starts BEFORE bytes into `now`, so that a write on either side of it shows.
-static union {
-    uint8_t bytes[ROOM];
-    uint32_t words[ROOM / WORD];
-} now;
-static uint8_t was[ROOM];
-
-static uint8_t *const lent = now.bytes + BEFORE;
-static uint32_t *const lent_words = now.words + BEFORE / WORD;
-
-static void lend(void)
-{
-    random_bytes(was, ROOM);
-    memcpy(now.bytes, was, ROOM);
-}
-
-// The call answered DL_DONE, wrote this result, and left every other byte as it was.
-static int gave(uint16_t code, const void *result, size_t n)
-{
-    const size_t end = BEFORE + n;
-    return code == DL_DONE && memcmp(lent, result, n) == 0 && memcmp(now.bytes, was, BEFORE) == 0
-        && memcmp(now.bytes + end, was + end, ROOM - end) == 0;
-}
-
-// The call answered DL_BAD_ARGUMENT and wrote nothing.
-static int refused(uint16_t code)
-{
-    return code == DL_BAD_ARGUMENT && memcmp(now.bytes, was, ROOM) == 0;
-}
+enum { MOST_LENGTH = 40, MOST_OUT = 20 };
 
 // ---- the other program
 
@@ -124,20 +90,11 @@ static void sm3_short_digest(void)
 
 static const size_t longest = UINT32_MAX;
 
-// Zeros that nothing may write to, and that take no memory.
-static uint8_t *map_zeros(size_t n)
-{
-    uint8_t *zeros = mmap(NULL, n, PROT_READ, MAP_PRIVATE | MAP_ANONYMOUS | MAP_NORESERVE, -1, 0);
-    if (zeros == MAP_FAILED)
-        die("cannot map zeros");
-    return zeros;
-}
-
 // The padding's count of bits passes 32 bits at 2^29 bytes.
 static void sm3_long_bit_count(void)
 {
     const size_t n = 1 << 29;
-    uint8_t *zeros = map_zeros(n), expected[DL_SM3_DIGEST_BYTES];
+    uint8_t *zeros = map_zeros(n, PROT_READ), expected[DL_SM3_DIGEST_BYTES];
     lend();
     uint16_t code = dl_sm3(zeros, n, lent, DL_SM3_DIGEST_BYTES);
     openssl_sm3(zeros, n, expected);
@@ -149,7 +106,7 @@ static void sm3_too_long(void)
 {
     static const size_t over[] = {1, 2, 64, 4096};
     const size_t most = longest + 4096;
-    uint8_t *zeros = map_zeros(most);
+    uint8_t *zeros = map_zeros(most, PROT_READ);
     for (size_t i = 0; i < sizeof over / sizeof *over; i++) {
         lend();
         uint16_t code = dl_sm3(zeros, longest + over[i], lent, DL_SM3_DIGEST_BYTES);

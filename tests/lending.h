@@ -1,0 +1,51 @@
+// The output that the C tests lend to a call, in the midst of random bytes.
+#ifndef LENDING_H
+#define LENDING_H
+
+#include "dykeladder.h"
+#include "testing.h"
+
+#include <sys/mman.h>
+
+enum { BEFORE = 16, ROOM = 512, WORD = 4 };
+
+// The lent output starts BEFORE bytes into `now`, so that a write on either side of it shows.
+static union {
+    uint8_t bytes[ROOM];
+    uint32_t words[ROOM / WORD];
+} now;
+static uint8_t was[ROOM];
+
+static uint8_t *const lent = now.bytes + BEFORE;
+static uint32_t *const lent_words = now.words + BEFORE / WORD;
+
+static inline void lend(void)
+{
+    random_bytes(was, ROOM);
+    memcpy(now.bytes, was, ROOM);
+}
+
+// The call answered DL_DONE, wrote this result, and left every other byte as it was.
+static inline int gave(uint16_t code, const void *result, size_t n)
+{
+    const size_t end = BEFORE + n;
+    return code == DL_DONE && memcmp(lent, result, n) == 0 && memcmp(now.bytes, was, BEFORE) == 0
+        && memcmp(now.bytes + end, was + end, ROOM - end) == 0;
+}
+
+// The call answered DL_BAD_ARGUMENT and wrote nothing.
+static inline int refused(uint16_t code)
+{
+    return code == DL_BAD_ARGUMENT && memcmp(now.bytes, was, ROOM) == 0;
+}
+
+// Zeros that take no memory until they are written to.
+static inline uint8_t *map_zeros(size_t n, int protection)
+{
+    uint8_t *zeros = mmap(NULL, n, protection, MAP_PRIVATE | MAP_ANONYMOUS | MAP_NORESERVE, -1, 0);
+    if (zeros == MAP_FAILED)
+        die("cannot map zeros");
+    return zeros;
+}
+
+#endif
