@@ -1,20 +1,20 @@
 -- What each function of the code returns, over what the functions that it calls ensure.
 use Prim.Native.Nat.{ℕ, zero, suc, _+_, _-_, _*_, _/_, _%_, _^_, _≤_, _<_}
-use mathlib.Core.Path.{_≡_, refl, sym, ap, _∙_}
-use mathlib.Core.Bool.{Bool, true, false, not, _&&_, cond}
+use mathlib.Core.Path.{_≡_, refl, sym, _∙_}
+use mathlib.Core.Bool.{Bool, true, false, not, _&&_}
 use mathlib.Core.List.{List, [], _∷_, _++_, append-nil}
 use mathlib.Core.Option.{Option, none, some}
 use native.Mathlib.Nat.{add-zero, zero-add, zero-lt-suc, le-trans, le-mul-of-pos-right, one-le-pow}
 use native.Mathlib.Numerals.{add-one}
 use native.Mathlib.Omega.{arith}
-use borrow.Author.Tests.{eq-eqb, ne-eqb, lt-ltb, le-ltb, le-leb, lt-leb, ltb-true, ltb-false, eqb-true, eqb-false, not-true, not-false}
+use borrow.Author.Tests.{eq-eqb, ne-eqb, lt-ltb, le-ltb, le-leb, lt-leb, leb-true, ltb-true, ltb-false, eqb-true, not-true, not-false}
 use lib.Dec.{eqb, leb, ltb, eqb·suc-suc, eqb·zero-suc}
-use lib.ListN.{length, getD, set, take, drop, replicate, length-drop, drop-of-length-le}
+use lib.ListN.{length, getD, set, take, drop, replicate, length-set, length-drop, drop-of-length-le}
 use lib.Seq.{length-take-le, drop-cons, take-suc-set, take-all, append-snoc, take-length, paste-suc}
 use Rattle.bytes.specs.Bytes.{indexOf, slice}
 use Rattle.words.specs.ListsLaws.{and-true, and-assoc}
 use Rattle.words.specs.Tables.{and-left, and-right}
-use Rattle.text.specs.Text.{digitValue, digitsFrom, decimalOf, bounded, numberOf, hexOf, stored, decodedOf, comma, fieldsOf, fieldEnd, fieldAt, endsFrom, splitOf}
+use Rattle.text.specs.Text.{digitValue, digitsFrom, decimalOf, bounded, numberOf, stored, decodedOf, comma, fieldsOf, fieldEnd, fieldAt, endsFrom, splitOf}
 use Rattle.text.specs.Steps.{allHex, pairsOf, startAfter, endsAfter}
 use Rattle.text.specs.TextLaws.{by-test, digits-grow, hex-is, length-pairs, end-le, fields-positive, fields-from}
 use Rattle.text.specs.declared.numbers.Number.{Number}
@@ -22,7 +22,18 @@ use Rattle.text.specs.declared.hexadecimal.Decoded.{Decoded}
 use Rattle.text.specs.declared.fields.Field.{Field}
 use Rattle.text.specs.declared.fields.Split.{Split}
 
+-- ---- digits
+
+pub in-range : (lo hi b : ℕ) → leb lo b && leb b hi ≡ true → lo ≤ b
+in-range lo hi b t = leb-true lo b (and-left (leb lo b) (leb b hi) t)
+
 -- ---- decimal numbers
+
+-- what the loop of `digits` keeps: the digits up to i give the value, and what is left gives the whole
+pub record Read (s : List ℕ) (value i : ℕ) : Type 0 where
+  pub within : i ≤ length s
+  pub fits : value < 2 ^ 64
+  pub rest : digitsFrom value (drop i s) ≡ digitsFrom 0 s
 
 -- more digits never bring a number back below 2^64
 large-stays : (v : ℕ) (s : List ℕ) → 2 ^ 64 ≤ v → (o : Option ℕ) → digitsFrom v s ≡ o → Number.Bad ≡ bounded o
@@ -43,6 +54,9 @@ module _ (s : List ℕ) (i v : ℕ) {d : ℕ} (within : i < length s) (digit : d
 
   pub digits-large : d ≤ 9 → (0xffff_ffff_ffff_ffff - d) / 10 < v → Number.Bad ≡ bounded (digitsFrom v (drop i s))
   digits-large h l = rw (← digits-more h) (large-stays (v * 10 + d) (drop (i + 1) s) (omega arith) (digitsFrom (v * 10 + d) (drop (i + 1) s)) refl)
+
+  pub read-more : Read s v i → d ≤ 9 → v ≤ (0xffff_ffff_ffff_ffff - d) / 10 → Read s (v * 10 + d) (i + 1)
+  read-more r h l = record { within = omega arith; fits = omega arith; rest = digits-more h ∙ r .rest }
 
 pub digits-end : (s : List ℕ) (i v : ℕ) → length s ≤ i → v < 2 ^ 64 → Number.Value v ≡ bounded (digitsFrom v (drop i s))
 unfolding digitsFrom bounded
@@ -144,27 +158,48 @@ module _ (line : List ℕ) (start : ℕ) where
   unfolding fieldEnd slice
   field-found p = rw (p, take-length line)
 
--- a field that starts n past the line's end ends there
-pub end-bounded : (line : List ℕ) (start n : ℕ) {r : Field} → r ≡ fieldAt line start → start ≤ length line + n → r .end ≤ length line + n
-end-bounded line start n e l = rw e (omega (arith, end-le line start))
-
 -- ---- six fields
 
-module _ (line ends : List ℕ) (start i : ℕ) {r : Field} (within : i < 6) (found : r ≡ fieldAt line start) where
-  pub start-more : startAfter (6 - (i + 1)) line (r .end + 1) ≡ startAfter (6 - i) line start
-  unfolding startAfter
-  start-more = let e : 6 - i ≡ suc (6 - (i + 1)) = omega arith in rw (e, found)
+-- what the loop of `split_six` keeps: the walk from start on, and the ends that it stored, are the whole walk
+pub record Walked (line ends : List ℕ) (start i : ℕ) : Type 0 where
+  pub within : i ≤ 6
+  pub bounded : start ≤ length line + i
+  pub six : length ends ≡ 6
+  pub starts : startAfter (6 - i) line start ≡ startAfter 6 line 0
+  pub stored : take i ends ++ endsAfter (6 - i) line start ≡ endsAfter 6 line 0
 
-  pub ends-more : length ends ≡ 6 → take (i + 1) (set ends i (r .end)) ++ endsAfter (6 - (i + 1)) line (r .end + 1) ≡ take i ends ++ endsAfter (6 - i) line start
-  unfolding endsAfter
-  ends-more l =
+module _ (line ends : List ℕ) (start i : ℕ) {r : Field} (walked : Walked line ends start i) (more : i < 6) (found : r ≡ fieldAt line start) where
+  -- the next field's end fits
+  pub end-bounded : r .end ≤ length line + i
+  end-bounded = rw found (omega (arith, end-le line start))
+
+  pub walked-more : Walked line (set ends i (r .end)) (r .end + 1) (i + 1)
+  unfolding startAfter endsAfter
+  walked-more =
       let e : 6 - i ≡ suc (6 - suc i) = omega arith in
       let m : i < length ends = omega arith in
-      rw (found, add-one i, take-suc-set, e) (append-snoc (take i ends) (fieldEnd line start) (endsAfter (6 - suc i) line (fieldEnd line start + 1)))
+      let h = end-bounded in
+      record {
+        within = omega arith;
+        bounded = omega arith;
+        six = rw length-set (walked .six);
+        starts = rw (add-one i, found) (rw e at (walked .starts));
+        stored =
+            rw (add-one i, take-suc-set, found, append-snoc (take i ends) (fieldEnd line start) (endsAfter (6 - suc i) line (fieldEnd line start + 1)))
+            (rw e at (walked .stored));
+      }
 
-pub ends-end : (line ends : List ℕ) (start i : ℕ) → length ends ≡ 6 → i ≡ 6 → take i ends ++ endsAfter (6 - i) line start ≡ ends
-unfolding endsAfter
-ends-end line ends start i l e = let m : length ends ≤ 6 = omega arith in rw (e, take-all 6 ends m) (append-nil ends)
+module _ (line ends : List ℕ) (start i : ℕ) (walked : Walked line ends start i) (over : 6 ≤ i) where
+  start-walked : start ≡ startAfter 6 line 0
+  unfolding startAfter
+  start-walked = let e : i ≡ 6 = omega arith in rw e at (walked .starts)
+
+  ends-walked : ends ≡ endsAfter 6 line 0
+  unfolding endsAfter
+  ends-walked =
+      let e : i ≡ 6 = omega arith in
+      let m : length ends ≤ 6 = omega arith in
+      rw (e, take-all 6 ends m, append-nil ends) at (walked .stored)
 
 module _ (line : List ℕ) where
   starts-rise : (n start : ℕ) → start + n ≤ startAfter n line start
@@ -178,18 +213,18 @@ module _ (line : List ℕ) where
   counted zero start l =
       by-test (ltb (fieldEnd line start) (length line))
       (λ t. let h = ltb-true (fieldEnd line start) (length line) t in
-          let p = fields-positive (drop (fieldEnd line start + 1) line) in
-          rw (fields-from line start l, t, ne-eqb (fieldEnd line start + 1) (length line + 1) (λ e. omega arith), ne-eqb (suc (length (fieldsOf (drop (fieldEnd line start + 1) line)))) 1 (λ e. omega arith)))
+      let p = fields-positive (drop (fieldEnd line start + 1) line) in
+      rw (fields-from line start l, t, ne-eqb (fieldEnd line start + 1) (length line + 1) (λ e. omega arith), ne-eqb (suc (length (fieldsOf (drop (fieldEnd line start + 1) line)))) 1 (λ e. omega arith)))
       (λ f. let h = ltb-false (fieldEnd line start) (length line) f in
-          let m = end-le line start in
-          rw (fields-from line start l, f, eq-eqb (fieldEnd line start + 1) (length line + 1) (omega arith)))
+      let m = end-le line start in
+      rw (fields-from line start l, f, eq-eqb (fieldEnd line start + 1) (length line + 1) (omega arith)))
   counted (suc n) start l =
       by-test (ltb (fieldEnd line start) (length line))
       (λ t. let h = ltb-true (fieldEnd line start) (length line) t in
-          rw (fields-from line start l, t, eqb·suc-suc (length (fieldsOf (drop (fieldEnd line start + 1) line))) (suc n)) (counted n (fieldEnd line start + 1) (omega arith)))
+      rw (fields-from line start l, t, eqb·suc-suc (length (fieldsOf (drop (fieldEnd line start + 1) line))) (suc n)) (counted n (fieldEnd line start + 1) (omega arith)))
       (λ f. let h = ltb-false (fieldEnd line start) (length line) f in
-          let m = starts-rise (suc n) (fieldEnd line start + 1) in
-          rw (fields-from line start l, f, eqb·suc-suc 0 (suc n), eqb·zero-suc n) (ne-eqb (startAfter (suc n) line (fieldEnd line start + 1)) (length line + 1) (λ e. omega arith)))
+      let m = starts-rise (suc n) (fieldEnd line start + 1) in
+      rw (fields-from line start l, f, eqb·suc-suc 0 (suc n), eqb·zero-suc n) (ne-eqb (startAfter (suc n) line (fieldEnd line start + 1)) (length line + 1) (λ e. omega arith)))
 
   field-length : (start : ℕ) → start ≤ length line → start + length (take (fieldEnd line start - start) (drop start line)) ≡ fieldEnd line start
   unfolding fieldEnd
@@ -200,25 +235,28 @@ module _ (line : List ℕ) where
       omega arith
 
   -- the walk's ends are those of the fields
-  ends-walked : (n start : ℕ) → start ≤ length line → length (fieldsOf (drop start line)) ≡ n → endsAfter n line start ≡ endsFrom start (fieldsOf (drop start line))
+  ends-found : (n start : ℕ) → start ≤ length line → length (fieldsOf (drop start line)) ≡ n → endsAfter n line start ≡ endsFrom start (fieldsOf (drop start line))
   unfolding endsAfter endsFrom
-  ends-walked zero start l e = let p = fields-positive (drop start line) in absurd (omega arith)
-  ends-walked (suc n) start l e =
+  ends-found zero start l e = let p = fields-positive (drop start line) in absurd (omega arith)
+  ends-found (suc n) start l e =
       by-test (ltb (fieldEnd line start) (length line))
       (λ t. let h = ltb-true (fieldEnd line start) (length line) t in
-          let m : suc (length (fieldsOf (drop (fieldEnd line start + 1) line))) ≡ suc n = rw (fields-from line start l, t) at e in
-          rw (fields-from line start l, t, field-length start l, ends-walked n (fieldEnd line start + 1) (omega arith) (omega arith)))
+      let m : suc (length (fieldsOf (drop (fieldEnd line start + 1) line))) ≡ suc n = rw (fields-from line start l, t) at e in
+      rw (fields-from line start l, t, field-length start l, ends-found n (fieldEnd line start + 1) (omega arith) (omega arith)))
       (λ f. let m : 1 ≡ suc n = rw (fields-from line start l, f) at e in
-          let z : n ≡ 0 = omega arith in
-          rw (fields-from line start l, f, field-length start l, z))
+      let z : n ≡ 0 = omega arith in
+      rw (fields-from line start l, f, field-length start l, z))
 
-  module _ {start : ℕ} (walked : start ≡ startAfter 6 line 0) where
-    pub split-other : (start ≡ length line + 1 → ⊥) → _≡_ {A = Split} (record { ok = false; ends = replicate 6 0 }) (splitOf line)
-    unfolding splitOf
-    split-other n = rw (← counted 5 0 (omega arith), ← walked, ne-eqb start (length line + 1) n)
+module _ (line ends : List ℕ) (start i : ℕ) (walked : Walked line ends start i) (over : 6 ≤ i) where
+  six-test : eqb (length (fieldsOf line)) 6 ≡ eqb start (length line + 1)
+  six-test = rw (start-walked line ends start i walked over) (sym (counted line 5 0 (omega arith)))
 
-    pub split-done : {ends : List ℕ} → ends ≡ endsAfter 6 line 0 → start ≡ length line + 1 → _≡_ {A = Split} (record { ok = true; ends = ends }) (splitOf line)
-    unfolding splitOf
-    split-done p e =
-        let six : eqb (length (fieldsOf line)) 6 ≡ true = rw (← counted 5 0 (omega arith), ← walked) (eq-eqb start (length line + 1) e) in
-        rw (six, p, ends-walked 6 0 (omega arith) (eqb-true (length (fieldsOf line)) 6 six))
+  pub split-other : (start ≡ length line + 1 → ⊥) → _≡_ {A = Split} (record { ok = false; ends = replicate 6 0 }) (splitOf line)
+  unfolding splitOf
+  split-other n = rw (six-test, ne-eqb start (length line + 1) n)
+
+  pub split-done : start ≡ length line + 1 → _≡_ {A = Split} (record { ok = true; ends = ends }) (splitOf line)
+  unfolding splitOf
+  split-done e =
+      let six : eqb (length (fieldsOf line)) 6 ≡ true = six-test ∙ eq-eqb start (length line + 1) e in
+      rw (six, ends-walked line ends start i walked over, ends-found line 6 0 (omega arith) (eqb-true (length (fieldsOf line)) 6 six))

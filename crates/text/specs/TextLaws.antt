@@ -4,10 +4,10 @@ use mathlib.Core.Path.{_≡_, refl, sym, ap, _∙_}
 use mathlib.Core.Bool.{Bool, true, false, _&&_, cond}
 use mathlib.Core.List.{List, [], _∷_, _++_}
 use mathlib.Core.Option.{Option, none, some}
-use native.Mathlib.Nat.{mul-assoc, pow-succ', mul-le-mul-right, le-add-right, le-trans, zero-lt-suc, le-mul-of-pos-right, one-le-pow, pow-le-pow-right, zero-add}
+use native.Mathlib.Nat.{mul-assoc, pow-succ', mul-le-mul-right, le-add-right, le-trans, zero-lt-suc, pow-le-pow-right}
 use native.Mathlib.Numerals.{add-one}
 use native.Mathlib.Omega.{arith}
-use borrow.Author.Tests.{eq-eqb, ne-eqb, lt-ltb, le-ltb, leb-true, ltb-true, ltb-false, eqb-true, eqb-false}
+use borrow.Author.Tests.{lt-ltb, le-ltb, leb-true, ltb-true, ltb-false, eqb-true, eqb-false}
 use lib.Dec.{eqb, leb, ltb, leb·suc-suc}
 use lib.ListN.{length, getD, take, drop, length-append, length-drop}
 use lib.Seq.{take-append-seam, drop-append-seam, drop-drop}
@@ -63,12 +63,12 @@ decimal-length (b ∷ c ∷ s) k {v} e p l =
     (λ t. none-some (rw (t, lt-ltb 0 (suc (length s)) (zero-lt-suc (length s))) at e))
     (λ f. by-test (ltb (digitValue b) 10)
     (λ t. let z : 0 * 10 + digitValue b ≡ digitValue b = omega arith in
-        let g = rw z at (digits-grow (0 * 10 + digitValue b) (c ∷ s) (rw (f, t) at e)) in
-        let d = digit-positive b (eqb-false b 0x30 f) in
-        let h = le-trans (mul-le-mul-right (10 ^ length (c ∷ s)) d) g in
-        by-test (ltb (length (c ∷ s)) k)
-        (λ m. omega (arith, ltb-true (length (c ∷ s)) k m))
-        (λ m. let q = pow-le-pow-right {n = 10} (zero-lt-suc 9) (ltb-false (length (c ∷ s)) k m) in absurd (omega arith)))
+    let g = rw z at (digits-grow (0 * 10 + digitValue b) (c ∷ s) (rw (f, t) at e)) in
+    let d = digit-positive b (eqb-false b 0x30 f) in
+    let h = le-trans (mul-le-mul-right (10 ^ length (c ∷ s)) d) g in
+    by-test (ltb (length (c ∷ s)) k)
+    (λ m. omega (arith, ltb-true (length (c ∷ s)) k m))
+    (λ m. let q = pow-le-pow-right {n = 10} (zero-lt-suc 9) (ltb-false (length (c ∷ s)) k m) in absurd (omega arith)))
     (λ u. none-some (rw (f, u) at e)))
 
 -- ---- hexadecimal bytes
@@ -182,8 +182,8 @@ end-le line start = let h = rw length-drop at (index-le (drop start line)) in om
 -- a walk from field to field: what is left of the line is the field at start and, past a comma, the next ones
 pub fields-from : (line : List ℕ) (start : ℕ) → start ≤ length line
     → fieldsOf (drop start line)
-      ≡ take (fieldEnd line start - start) (drop start line)
-        ∷ cond (ltb (fieldEnd line start) (length line)) (fieldsOf (drop (fieldEnd line start + 1) line)) []
+    ≡ take (fieldEnd line start - start) (drop start line)
+    ∷ cond (ltb (fieldEnd line start) (length line)) (fieldsOf (drop (fieldEnd line start + 1) line)) []
 unfolding fieldEnd
 fields-from line start l =
     let n = indexOf comma (drop start line) in
@@ -214,19 +214,19 @@ parts-found line f [] start e =
 parts-found line f (g ∷ gs) start e =
     let n : start + length f - start ≡ length f = omega arith in
     let next : drop (start + length f + 1) line ≡ joined (g ∷ gs) =
-        rw (← drop-drop 1 (start + length f) line, ← drop-drop (length f) start line, e, drop-append-seam f (comma ∷ (g ++ behindCommas gs))) in
+    rw (← drop-drop 1 (start + length f) line, ← drop-drop (length f) start line, e, drop-append-seam f (comma ∷ (g ++ behindCommas gs))) in
     rw (n, parts-found line g gs (start + length f + 1) next, e, take-append-seam f (comma ∷ (g ++ behindCommas gs)))
 
 -- what `split_six` says of a line where it answers ok: the fields are the parts between the ends, and each part lies in the line
 pub record SixFields (line ends : List ℕ) : Type 0 where
   pub fields : fieldsOf line
       ≡ take (getD ends 0 0) line
-        ∷ take (getD ends 1 0 - (getD ends 0 0 + 1)) (drop (getD ends 0 0 + 1) line)
-        ∷ take (getD ends 2 0 - (getD ends 1 0 + 1)) (drop (getD ends 1 0 + 1) line)
-        ∷ take (getD ends 3 0 - (getD ends 2 0 + 1)) (drop (getD ends 2 0 + 1) line)
-        ∷ take (getD ends 4 0 - (getD ends 3 0 + 1)) (drop (getD ends 3 0 + 1) line)
-        ∷ take (getD ends 5 0 - (getD ends 4 0 + 1)) (drop (getD ends 4 0 + 1) line)
-        ∷ []
+      ∷ take (getD ends 1 0 - (getD ends 0 0 + 1)) (drop (getD ends 0 0 + 1) line)
+      ∷ take (getD ends 2 0 - (getD ends 1 0 + 1)) (drop (getD ends 1 0 + 1) line)
+      ∷ take (getD ends 3 0 - (getD ends 2 0 + 1)) (drop (getD ends 2 0 + 1) line)
+      ∷ take (getD ends 4 0 - (getD ends 3 0 + 1)) (drop (getD ends 3 0 + 1) line)
+      ∷ take (getD ends 5 0 - (getD ends 4 0 + 1)) (drop (getD ends 4 0 + 1) line)
+      ∷ []
   pub second : getD ends 0 0 < getD ends 1 0
   pub third : getD ends 1 0 < getD ends 2 0
   pub fourth : getD ends 2 0 < getD ends 3 0

@@ -1,35 +1,33 @@
+use Rattle.text.specs.Text.{digitValue}
+use Rattle.text.specs.ReturnLaws.{in-range}
+use native.Mathlib.Omega.{arith}
 use Rattle.text.proofs.digit.digit.Statement.{statement}
 use Rattle.text.proofs.digit.digit.Tie as tie
-use Rattle.text.proofs.digit.digit.Reads as reads
-use Rattle.text.proofs.digit.digit.Lts as lts
 
--- src/digit.rt:10:16
 sub-result : tie.Need-sub-result
-sub-result c = ?
+sub-result c = omega (arith, in-range 0x30 0x39 (c .before .args .b) (c .if1 .taken))
 
--- src/digit.rt:10:9
 returns : tie.Need-returns
-returns c = ?
+unfolding digitValue
+returns c = rw (c .if1 .taken)
 
--- src/digit.rt:13:16
 sub-result-2 : tie.Need-sub-result-2
-sub-result-2 c = ?
+sub-result-2 c = omega (arith, in-range 0x41 0x46 (c .before .before .args .b) (c .if2 .taken))
 
--- src/digit.rt:13:9
 returns-2 : tie.Need-returns-2
-returns-2 c = ?
+unfolding digitValue
+returns-2 c = rw (c .before .if1 .left, c .if2 .taken)
 
--- src/digit.rt:16:16
 sub-result-3 : tie.Need-sub-result-3
-sub-result-3 c = ?
+sub-result-3 c = omega (arith, in-range 0x61 0x66 (c .before .before .before .args .b) (c .if3 .taken))
 
--- src/digit.rt:16:9
 returns-3 : tie.Need-returns-3
-returns-3 c = ?
+unfolding digitValue
+returns-3 c = rw (c .before .before .if1 .left, c .before .if2 .left, c .if3 .taken)
 
--- src/digit.rt:6:1
 returns-4 : tie.Need-returns-4
-returns-4 c = ?
+unfolding digitValue
+returns-4 c = rw (c .before .before .if1 .left, c .before .if2 .left, c .if3 .left)
 
 pub digit-spec : {M : Type 1} → statement M
 digit-spec =

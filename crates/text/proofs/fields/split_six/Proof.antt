@@ -1,58 +1,48 @@
+use Prim.Native.Nat.{_-_}
+use Rattle.text.specs.ReturnLaws.{Walked, end-bounded, walked-more, split-other, split-done}
+use borrow.Author.Needs.{needs}
+use native.Mathlib.Omega.{arith}
 use Rattle.text.proofs.fields.split_six.Statement.{statement}
 use Rattle.text.proofs.fields.split_six.Tie as tie
-use Rattle.text.proofs.fields.split_six.Reads as reads
-use Rattle.text.proofs.fields.split_six.Lts as lts
-use Rattle.text.proofs.fields.field_at.Reads as field-at-reads
 
 abbrev Inv-loop : tie.InvT-loop
-Inv-loop line ends₀ start₀ i₀ ends start i = ?
+Inv-loop line ends₀ start₀ i₀ ends start i = Walked line ends start i
 
 abbrev μ-loop : tie.MeasureT-loop
-μ-loop line ends₀ start₀ i₀ ends start i = ?
+μ-loop line ends₀ start₀ i₀ ends start i = 6 - i
 
--- src/fields.rt:38:5
 loop-holds : tie.Need-loop-holds Inv-loop μ-loop
-loop-holds c = ?
+loop-holds c = search needs
 
--- src/fields.rt:39:19
 field-at-requires : tie.Need-field-at-requires Inv-loop μ-loop
-field-at-requires c κs = ?
+field-at-requires c κs = search needs
 
--- src/fields.rt:40:9
 mul-ends : tie.Need-mul-ends Inv-loop μ-loop
-mul-ends c = ?
+mul-ends c = search needs
 
--- src/fields.rt:40:9
 array-write-ends : tie.Need-array-write-ends Inv-loop μ-loop
-array-write-ends c = ?
+array-write-ends c = search needs
 
--- src/fields.rt:41:17
 add-start : tie.Need-add-start Inv-loop μ-loop
-add-start c = ?
+add-start c = let l = c .before .before .loop in omega (arith, end-bounded (c .before .before .before .before .args .line .now) (l .ends) (l .start) (l .i) (l .inv) (c .before .loop-test .taken) (c .field-at .ensures))
 
--- src/fields.rt:42:9
 add-i : tie.Need-add-i Inv-loop μ-loop
-add-i c = ?
+add-i c = search needs
 
--- src/fields.rt:38:5
 loop-less : tie.Need-loop-less Inv-loop μ-loop
-loop-less c = ?
+loop-less c = search needs
 
--- src/fields.rt:38:5
 loop-again : tie.Need-loop-again Inv-loop μ-loop
-loop-again c = ?
+loop-again c = let l = c .before .before .loop in walked-more (c .before .before .before .before .args .line .now) (l .ends) (l .start) (l .i) (l .inv) (c .before .loop-test .taken) (c .field-at .ensures)
 
--- src/fields.rt:44:17
 add-if1 : tie.Need-add-if1 Inv-loop μ-loop
-add-if1 c = ?
+add-if1 c = search needs
 
--- src/fields.rt:45:9
 returns : tie.Need-returns Inv-loop μ-loop
-returns c = ?
+returns c = let l = c .before .before .loop in split-other (c .before .before .before .before .args .line .now) (l .ends) (l .start) (l .i) (l .inv) (c .before .loop-test .left) (c .if1 .taken)
 
--- src/fields.rt:32:1
 returns-2 : tie.Need-returns-2 Inv-loop μ-loop
-returns-2 c = ?
+returns-2 c = let l = c .before .before .loop in split-done (c .before .before .before .before .args .line .now) (l .ends) (l .start) (l .i) (l .inv) (c .before .loop-test .left) (c .if1 .left)
 
 pub split-six-spec : {M : Type 1} → statement M
 split-six-spec =

@@ -1,78 +1,67 @@
+use Prim.Native.Nat.{_+_, _*_, _-_, _/_, _≤_}
+use mathlib.Core.Path.{_≡_, _∙_}
+use mathlib.Core.List.{_++_}
+use lib.ListN.{length, take, drop, length-set}
+use Rattle.text.specs.Steps.{pairsOf}
+use Rattle.text.specs.ReturnLaws.{all-at, decode-more, decode-end}
+use borrow.Author.Needs.{needs}
+use native.Mathlib.Omega.{arith}
 use Rattle.text.proofs.hexadecimal.decode.Statement.{statement}
 use Rattle.text.proofs.hexadecimal.decode.Tie as tie
-use Rattle.text.proofs.hexadecimal.decode.Reads as reads
-use Rattle.text.proofs.hexadecimal.decode.Lts as lts
-use Rattle.text.proofs.digit.digit.Reads as digit-reads
 
 abbrev Inv-loop : tie.InvT-loop
-Inv-loop s out₀ n i₀ out i = ?
+Inv-loop s out₀ n i₀ out i = (i ≤ length s / 2) × ((length out ≡ length out₀) × (out ≡ take i (pairsOf s) ++ drop i out₀))
 
 abbrev μ-loop : tie.MeasureT-loop
-μ-loop s out₀ n i₀ out i = ?
+μ-loop s out₀ n i₀ out i = length s / 2 - i
 
--- src/hexadecimal.rt:38:5
 loop-holds : tie.Need-loop-holds Inv-loop μ-loop
-loop-holds c = ?
+loop-holds c = search needs
 
--- src/hexadecimal.rt:39:28
 mul-digit : tie.Need-mul-digit Inv-loop μ-loop
-mul-digit c = ?
+mul-digit c = search needs
 
--- src/hexadecimal.rt:39:26
 shared-slice-read-digit : tie.Need-shared-slice-read-digit Inv-loop μ-loop
-shared-slice-read-digit c = ?
+shared-slice-read-digit c = search needs
 
--- src/hexadecimal.rt:39:13
 digit-requires : tie.Need-digit-requires Inv-loop μ-loop
-digit-requires c κs = ?
+digit-requires c κs = search needs
 
--- src/hexadecimal.rt:40:27
 mul-digit-2 : tie.Need-mul-digit-2 Inv-loop μ-loop
-mul-digit-2 c = ?
+mul-digit-2 c = search needs
 
--- src/hexadecimal.rt:40:27
 add-digit : tie.Need-add-digit Inv-loop μ-loop
-add-digit c = ?
+add-digit c = search needs
 
--- src/hexadecimal.rt:40:25
 shared-slice-read-digit-2 : tie.Need-shared-slice-read-digit-2 Inv-loop μ-loop
-shared-slice-read-digit-2 c = ?
+shared-slice-read-digit-2 c = search needs
 
--- src/hexadecimal.rt:40:13
 digit-requires-2 : tie.Need-digit-requires-2 Inv-loop μ-loop
-digit-requires-2 c κs = ?
+digit-requires-2 c κs = search needs
 
--- src/hexadecimal.rt:41:18
 mul-out : tie.Need-mul-out Inv-loop μ-loop
-mul-out c = ?
+mul-out c = omega (arith, all-at (c .before .before .before .before .before .before .before .before .args .s .now) (2 * c .before .before .before .before .before .loop .i) (c .before .before .before .before .before .before .before .before .pre .0) (omega arith) (c .before .before .digit .ensures))
 
--- src/hexadecimal.rt:41:18
 add-out : tie.Need-add-out Inv-loop μ-loop
-add-out c = ?
+add-out c = omega (arith, all-at (c .before .before .before .before .before .before .before .before .args .s .now) (2 * c .before .before .before .before .before .loop .i) (c .before .before .before .before .before .before .before .before .pre .0) (omega arith) (c .before .before .digit .ensures), all-at (c .before .before .before .before .before .before .before .before .args .s .now) (2 * c .before .before .before .before .before .loop .i + 1) (c .before .before .before .before .before .before .before .before .pre .0) (omega arith) (c .digit2 .ensures))
 
--- src/hexadecimal.rt:41:9
 slice-write-out : tie.Need-slice-write-out Inv-loop μ-loop
-slice-write-out c = ?
+slice-write-out c = search needs
 
--- src/hexadecimal.rt:42:9
 add-i : tie.Need-add-i Inv-loop μ-loop
-add-i c = ?
+add-i c = search needs
 
--- src/hexadecimal.rt:38:5
 loop-less : tie.Need-loop-less Inv-loop μ-loop
-loop-less c = ?
+loop-less c = search needs
 
--- src/hexadecimal.rt:38:5
 loop-again : tie.Need-loop-again Inv-loop μ-loop
-loop-again c = ?
+loop-again c = let l = c .before .before .before .before .before .loop in let a = c .before .before .before .before .before .before .before .before .args in (search needs, (rw length-set (l .inv .1 .0), rw (l .inv .1 .1) (decode-more (a .s .now) (a .out .now) (l .i) (c .before .before .before .before .loop-test .taken) (c .before .before .before .before .before .before .before .before .pre .1) (c .before .before .digit .ensures) (c .digit2 .ensures))))
 
--- src/hexadecimal.rt:31:1
 same-length : tie.Need-same-length Inv-loop μ-loop
-same-length c = ?
+same-length c = search needs
 
--- src/hexadecimal.rt:31:1
 returns : tie.Need-returns Inv-loop μ-loop
-returns c = ?
+returns c = c .before .loop .inv .1 .1 ∙ decode-end (c .before .before .before .before .args .s .now) (c .before .before .before .before .args .out .now) (c .before .loop .i) (omega arith)
 
 pub decode-spec : {M : Type 1} → statement M
 decode-spec =

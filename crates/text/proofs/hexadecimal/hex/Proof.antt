@@ -1,38 +1,30 @@
+use Rattle.text.specs.ReturnLaws.{hex-odd, hex-short, hex-wrong, hex-done}
+use mathlib.Core.Path.{sym, _∙_}
+use borrow.Author.Tests.{not-false}
 use borrow.Author.Needs.{needs}
 use Rattle.text.proofs.hexadecimal.hex.Statement.{statement}
 use Rattle.text.proofs.hexadecimal.hex.Tie as tie
-use Rattle.text.proofs.hexadecimal.hex.Reads as reads
-use Rattle.text.proofs.hexadecimal.hex.Lts as lts
-use Rattle.text.proofs.hexadecimal.all_hex.Reads as all-hex-reads
-use Rattle.text.proofs.hexadecimal.decode.Reads as decode-reads
 
--- src/hexadecimal.rt:52:9
 returns : tie.Need-returns
-returns c = ?
+returns c = hex-odd (c .before .before .before .args .s .now) (c .before .before .before .args .out .now) (c .if1 .taken)
 
--- src/hexadecimal.rt:55:9
 returns-2 : tie.Need-returns-2
-returns-2 c = ?
+returns-2 c = hex-short (c .before .before .before .before .args .s .now) (c .before .before .before .before .args .out .now) (c .before .if1 .left) (c .if2 .taken)
 
--- src/hexadecimal.rt:57:9
 all-hex-requires : tie.Need-all-hex-requires
 all-hex-requires c κs = search needs
 
--- src/hexadecimal.rt:58:9
 returns-3 : tie.Need-returns-3
-returns-3 c = ?
+returns-3 c = hex-wrong (c .before .before .before .before .before .before .args .s .now) (c .before .before .before .before .before .before .args .out .now) (c .before .before .before .if1 .left) (c .before .all-hex .ensures) (c .if3 .taken)
 
--- src/hexadecimal.rt:60:5
 decode-requires : tie.Need-decode-requires
-decode-requires c κs = ?
+decode-requires c κs = (sym (c .before .before .all-hex .ensures) ∙ not-false (c .before .before .all-hex .result) (c .before .if3 .left), c .before .before .before .if2 .left)
 
--- src/hexadecimal.rt:47:1
 same-length : tie.Need-same-length
 same-length c = search needs
 
--- src/hexadecimal.rt:47:1
 returns-4 : tie.Need-returns-4
-returns-4 c = ?
+returns-4 c = hex-done (c .before .before .before .before .before .before .before .before .before .before .args .s .now) (c .before .before .before .before .before .before .before .before .before .before .args .out .now) (c .before .before .before .before .before .before .before .if1 .left) (c .before .before .before .before .before .all-hex .ensures) (c .before .before .before .before .before .before .if2 .left) (c .before .before .before .before .if3 .left) (c .before .before .decode .ensures)
 
 pub hex-spec : {M : Type 1} → statement M
 hex-spec =

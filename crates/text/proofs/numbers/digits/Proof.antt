@@ -1,66 +1,56 @@
+use Prim.Native.Nat.{_-_}
+use mathlib.Core.Path.{ap, _∙_}
+use lib.ListN.{length}
+use Rattle.text.specs.Text.{bounded}
+use Rattle.text.specs.ReturnLaws.{Read, digits-wrong, digits-large, read-more, digits-end}
+use borrow.Author.Needs.{needs}
 use Rattle.text.proofs.numbers.digits.Statement.{statement}
 use Rattle.text.proofs.numbers.digits.Tie as tie
-use Rattle.text.proofs.numbers.digits.Reads as reads
-use Rattle.text.proofs.numbers.digits.Lts as lts
-use Rattle.text.proofs.digit.digit.Reads as digit-reads
 
 abbrev Inv-loop : tie.InvT-loop
-Inv-loop s value₀ i₀ value i = ?
+Inv-loop s value₀ i₀ value i = Read s value i
 
 abbrev μ-loop : tie.MeasureT-loop
-μ-loop s value₀ i₀ value i = ?
+μ-loop s value₀ i₀ value i = length s - i
 
--- src/numbers.rt:18:5
 loop-holds : tie.Need-loop-holds Inv-loop μ-loop
-loop-holds c = ?
+loop-holds c = search needs
 
--- src/numbers.rt:19:23
 shared-slice-read-digit : tie.Need-shared-slice-read-digit Inv-loop μ-loop
-shared-slice-read-digit c = ?
+shared-slice-read-digit c = search needs
 
--- src/numbers.rt:19:17
 digit-requires : tie.Need-digit-requires Inv-loop μ-loop
-digit-requires c κs = ?
+digit-requires c κs = search needs
 
--- src/numbers.rt:19:17
 cast-d : tie.Need-cast-d Inv-loop μ-loop
-cast-d c = ?
+cast-d c = search needs
 
--- src/numbers.rt:21:13
 returns : tie.Need-returns Inv-loop μ-loop
-returns c = ?
+returns c = let l = c .before .before .before .before .loop in digits-wrong (c .before .before .before .before .before .before .args .s .now) (l .i) (l .value) (c .before .before .before .loop-test .taken) (c .before .digit .ensures) (c .if1 .taken) ∙ ap bounded (l .inv .rest)
 
--- src/numbers.rt:23:13
 sub-if2 : tie.Need-sub-if2 Inv-loop μ-loop
-sub-if2 c = ?
+sub-if2 c = search needs
 
--- src/numbers.rt:24:13
 returns-2 : tie.Need-returns-2 Inv-loop μ-loop
-returns-2 c = ?
+returns-2 c = let l = c .before .before .before .before .before .loop in digits-large (c .before .before .before .before .before .before .before .args .s .now) (l .i) (l .value) (c .before .before .before .before .loop-test .taken) (c .before .before .digit .ensures) (c .before .if1 .left) (c .if2 .taken) ∙ ap bounded (l .inv .rest)
 
--- src/numbers.rt:26:17
 mul-value : tie.Need-mul-value Inv-loop μ-loop
-mul-value c = ?
+mul-value c = search needs
 
--- src/numbers.rt:26:17
 add-value : tie.Need-add-value Inv-loop μ-loop
-add-value c = ?
+add-value c = search needs
 
--- src/numbers.rt:27:9
 add-i : tie.Need-add-i Inv-loop μ-loop
-add-i c = ?
+add-i c = search needs
 
--- src/numbers.rt:18:5
 loop-less : tie.Need-loop-less Inv-loop μ-loop
-loop-less c = ?
+loop-less c = search needs
 
--- src/numbers.rt:18:5
 loop-again : tie.Need-loop-again Inv-loop μ-loop
-loop-again c = ?
+loop-again c = let l = c .before .before .before .before .before .loop in read-more (c .before .before .before .before .before .before .before .args .s .now) (l .i) (l .value) (c .before .before .before .before .loop-test .taken) (c .before .before .digit .ensures) (l .inv) (c .before .if1 .left) (c .if2 .left)
 
--- src/numbers.rt:13:1
 returns-3 : tie.Need-returns-3 Inv-loop μ-loop
-returns-3 c = ?
+returns-3 c = let l = c .before .loop in digits-end (c .before .before .before .args .s .now) (l .i) (l .value) (c .loop-test .left) (l .inv .fits) ∙ ap bounded (l .inv .rest)
 
 pub digits-spec : {M : Type 1} → statement M
 digits-spec =
