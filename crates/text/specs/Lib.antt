@@ -3,3 +3,4 @@ pub mod Text
 pub mod Steps
 pub mod TextLaws
 pub mod ReturnLaws
+pub mod TextExamples

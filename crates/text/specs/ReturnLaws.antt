@@ -7,8 +7,8 @@ use mathlib.Core.Option.{Option, none, some}
 use native.Mathlib.Nat.{add-zero, zero-add, zero-lt-suc, le-trans, le-mul-of-pos-right, one-le-pow}
 use native.Mathlib.Numerals.{add-one}
 use native.Mathlib.Omega.{arith}
-use borrow.Author.Tests.{eq-eqb, ne-eqb, lt-ltb, le-ltb, le-leb, lt-leb, leb-true, ltb-true, ltb-false, eqb-true, not-true, not-false}
-use lib.Dec.{eqb, leb, ltb, eqb·suc-suc, eqb·zero-suc}
+use borrow.Author.Tests.{eq-eqb, ne-eqb, lt-ltb, le-ltb, le-leb, lt-leb, ltb-true, ltb-false, eqb-true, not-true, not-false}
+use lib.Dec.{eqb, ltb, eqb·suc-suc, eqb·zero-suc}
 use lib.ListN.{length, getD, set, take, drop, replicate, length-set, length-drop, drop-of-length-le}
 use lib.Seq.{length-take-le, drop-cons, take-suc-set, take-all, append-snoc, take-length, paste-suc}
 use Rattle.bytes.specs.Bytes.{indexOf, slice}
@@ -21,11 +21,6 @@ use Rattle.text.specs.declared.numbers.Number.{Number}
 use Rattle.text.specs.declared.hexadecimal.Decoded.{Decoded}
 use Rattle.text.specs.declared.fields.Field.{Field}
 use Rattle.text.specs.declared.fields.Split.{Split}
-
--- ---- digits
-
-pub in-range : (lo hi b : ℕ) → leb lo b && leb b hi ≡ true → lo ≤ b
-in-range lo hi b t = leb-true lo b (and-left (leb lo b) (leb b hi) t)
 
 -- ---- decimal numbers
 

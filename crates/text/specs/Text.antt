@@ -1,5 +1,5 @@
 -- The text of a line (document 01, "Line program"): fields between commas, decimal numbers without leading zeros, bytes in hexadecimal.
-use Prim.Native.Nat.{ℕ, zero, _+_, _-_, _*_, _^_}
+use Prim.Native.Nat.{ℕ, _+_, _-_, _*_, _^_}
 use mathlib.Core.Bool.{true, false, _&&_, cond}
 use mathlib.Core.List.{List, [], _∷_, _++_}
 use mathlib.Core.Option.{Option, none, some}

@@ -14,8 +14,10 @@ use lib.Seq.{take-append-seam, drop-append-seam, drop-drop}
 use Rattle.bytes.specs.Bytes.{indexOf, indexAfter}
 use Rattle.words.specs.BytesLaws.{AreBytes}
 use Rattle.words.specs.Tables.{and-left, and-right}
-use Rattle.text.specs.Text.{digitValue, digitsFrom, decimalOf, byteThen, hexOf, comma, longer, fieldsOf, behindCommas, joined, sumLengths, fieldEnd, endsFrom, splitOf}
+use Rattle.text.specs.Text.{digitValue, digitsFrom, decimalOf, bounded, numberOf, byteThen, hexOf, stored, decodedOf, comma, longer, fieldsOf, behindCommas, joined, sumLengths, fieldEnd, endsFrom, splitOf}
 use Rattle.text.specs.Steps.{allHex, pairsOf}
+use Rattle.text.specs.declared.numbers.Number.{Number}
+use Rattle.text.specs.declared.hexadecimal.Decoded.{Decoded}
 use Rattle.text.specs.declared.fields.Split.{Split}
 
 -- a test is passed or failed
@@ -26,22 +28,27 @@ by-test false p f = f refl
 none-some : {A B : Type 0} {a : A} → _≡_ {A = Option A} none (some a) → B
 none-some e = let z : _≡_ {A = ℕ} 0 1 = cc in absurd (omega arith)
 
--- ---- decimal numbers
+-- ---- digits
+
+pub from-range : (lo b : ℕ) (t : Bool) → leb lo b && t ≡ true → lo ≤ b
+from-range lo b t e = leb-true lo b (and-left (leb lo b) t e)
 
 -- only the digit zero has the value zero
 digit-positive : (b : ℕ) → (b ≡ 0x30 → ⊥) → 0 < digitValue b
 unfolding digitValue
 digit-positive b n =
     by-test (leb 0x30 b && leb b 0x39)
-    (λ t. let l = leb-true 0x30 b (and-left (leb 0x30 b) (leb b 0x39) t) in rw t (above b n l))
+    (λ t. let l = from-range 0x30 b (leb b 0x39) t in rw t (above b n l))
     (λ f. by-test (leb 0x41 b && leb b 0x46)
-    (λ t. let l = leb-true 0x41 b (and-left (leb 0x41 b) (leb b 0x46) t) in rw (f, t) (omega arith))
+    (λ t. let l = from-range 0x41 b (leb b 0x46) t in rw (f, t) (omega arith))
     (λ g. by-test (leb 0x61 b && leb b 0x66)
-    (λ t. let l = leb-true 0x61 b (and-left (leb 0x61 b) (leb b 0x66) t) in rw (f, g, t) (omega arith))
+    (λ t. let l = from-range 0x61 b (leb b 0x66) t in rw (f, g, t) (omega arith))
     (λ h. rw (f, g, h) (omega arith))))
   where
     above : (b : ℕ) → (b ≡ 0x30 → ⊥) → 0x30 ≤ b → 0 < b - 0x30
     above b n l = by-test (eqb b 0x30) (λ t. absurd (n (eqb-true b 0x30 t))) (λ f. omega (arith, eqb-false b 0x30 f))
+
+-- ---- decimal numbers
 
 -- each digit more makes a number at least ten times as large
 pub digits-grow : (v : ℕ) (s : List ℕ) {w : ℕ} → digitsFrom v s ≡ some w → v * 10 ^ length s ≤ w
@@ -70,6 +77,21 @@ decimal-length (b ∷ c ∷ s) k {v} e p l =
     (λ m. omega (arith, ltb-true (length (c ∷ s)) k m))
     (λ m. let q = pow-le-pow-right {n = 10} (zero-lt-suc 9) (ltb-false (length (c ∷ s)) k m) in absurd (omega arith)))
     (λ u. none-some (rw (f, u) at e)))
+
+bounded-value : (o : Option ℕ) {v : ℕ} → bounded o ≡ Number.Value v → (o ≡ some v) × (v < 2 ^ 64)
+unfolding bounded
+bounded-value none e = let z : _≡_ {A = ℕ} 0 1 = cc in absurd (omega arith)
+bounded-value (some w) {v} e =
+    by-test (ltb w (2 ^ 64))
+    (λ t. let h : Number.Value w ≡ Number.Value v = rw t at e in
+    let same : w ≡ v = cc in
+    let l = ltb-true w (2 ^ 64) t in
+    (ap some same, omega arith))
+    (λ f. let h : Number.Bad ≡ Number.Value v = rw f at e in let z : _≡_ {A = ℕ} 0 1 = cc in absurd (omega arith))
+
+-- what `decimal` answers is the number
+pub number-value : (s : List ℕ) {v : ℕ} → numberOf s ≡ Number.Value v → (decimalOf s ≡ some v) × (v < 2 ^ 64)
+number-value s e = bounded-value (decimalOf s) e
 
 -- ---- hexadecimal bytes
 
@@ -127,6 +149,21 @@ module _ (s : List ℕ) {b : List ℕ} (e : hexOf s ≡ some b) where
 
   pub hex-bytes : AreBytes b
   hex-bytes = rw hex-pairs (pairs-bytes s (and-right (eqb (length s % 2) 0) (allHex s) hex-tests))
+
+stored-front : (o : Option (List ℕ)) (out : List ℕ) {n : ℕ} → stored o out .answer ≡ Decoded.Bytes n → (o ≡ some (take n (stored o out .out))) × (n ≤ length out)
+unfolding stored
+stored-front none out e = let z : _≡_ {A = ℕ} 0 1 = cc in absurd (omega arith)
+stored-front (some b) out {n} e =
+    by-test (leb (length b) (length out))
+    (λ t. let h : Decoded.Bytes (length b) ≡ Decoded.Bytes n = rw t at e in
+    let same : length b ≡ n = cc in
+    let l = leb-true (length b) (length out) t in
+    (rw (t, ← same, take-append-seam b (drop (length b) out)), omega arith))
+    (λ f. let h : Decoded.Bad ≡ Decoded.Bytes n = rw f at e in let z : _≡_ {A = ℕ} 0 1 = cc in absurd (omega arith))
+
+-- what `hex` decoded stands at the front of the output
+pub hex-decoded : (s out : List ℕ) {n : ℕ} → decodedOf s out .answer ≡ Decoded.Bytes n → (hexOf s ≡ some (take n (decodedOf s out .out))) × (n ≤ length out)
+hex-decoded s out e = stored-front (hexOf s) out e
 
 -- ---- fields
 

@@ -28,7 +28,9 @@ pub fn field_at(line: &[u8], start: usize) -> Field
     Field { start, end }
 }
 
-// The line in six fields. Each starts past the comma at the end of the one before it.
+// The line in six fields, each from past the comma that ends the one before it.
+// A caller reads `let end = ends[i]` and lends `&line[start..end]`; `six-fields` of specs/TextLaws.antt says of an ok answer that these parts
+// are the fields and lie in the line, and `other-fields` of another that the fields are not six.
 pub fn split_six(line: &[u8]) -> Split
     ensures { λ r. ⌜ r ≡ splitOf (now (line .entry)) ⌝ }
 {

@@ -1,25 +1,25 @@
 use Rattle.text.specs.Text.{digitValue}
-use Rattle.text.specs.ReturnLaws.{in-range}
+use Rattle.text.specs.TextLaws.{from-range}
 use native.Mathlib.Omega.{arith}
 use Rattle.text.proofs.digit.digit.Statement.{statement}
 use Rattle.text.proofs.digit.digit.Tie as tie
 
 sub-result : tie.Need-sub-result
-sub-result c = omega (arith, in-range 0x30 0x39 (c .before .args .b) (c .if1 .taken))
+sub-result c = omega (arith, from-range 0x30 (c .before .args .b) _ (c .if1 .taken))
 
 returns : tie.Need-returns
 unfolding digitValue
 returns c = rw (c .if1 .taken)
 
 sub-result-2 : tie.Need-sub-result-2
-sub-result-2 c = omega (arith, in-range 0x41 0x46 (c .before .before .args .b) (c .if2 .taken))
+sub-result-2 c = omega (arith, from-range 0x41 (c .before .before .args .b) _ (c .if2 .taken))
 
 returns-2 : tie.Need-returns-2
 unfolding digitValue
 returns-2 c = rw (c .before .if1 .left, c .if2 .taken)
 
 sub-result-3 : tie.Need-sub-result-3
-sub-result-3 c = omega (arith, in-range 0x61 0x66 (c .before .before .before .args .b) (c .if3 .taken))
+sub-result-3 c = omega (arith, from-range 0x61 (c .before .before .before .args .b) _ (c .if3 .taken))
 
 returns-3 : tie.Need-returns-3
 unfolding digitValue

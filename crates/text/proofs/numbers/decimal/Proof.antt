@@ -1,4 +1,5 @@
 use Rattle.text.specs.ReturnLaws.{decimal-empty, decimal-digits, decimal-zero, decimal-leading}
+use native.Mathlib.Omega.{arith}
 use borrow.Author.Needs.{needs}
 use Rattle.text.proofs.numbers.decimal.Statement.{statement}
 use Rattle.text.proofs.numbers.decimal.Tie as tie
@@ -16,7 +17,7 @@ returns-2 : tie.Need-returns-2
 returns-2 c = decimal-digits (c .before .before .before .before .before .args .s .now) (c .before .before .before .if1 .left) (c .before .if2 .taken) (c .digits .ensures)
 
 returns-3 : tie.Need-returns-3
-returns-3 c = decimal-zero (c .before .before .before .before .before .args .s .now) (c .before .if2 .left) (c .if3 .taken)
+returns-3 c = decimal-zero (c .before .before .before .before .before .args .s .now) (c .before .if2 .left) (omega arith)
 
 returns-4 : tie.Need-returns-4
 returns-4 c = decimal-leading (c .before .before .before .before .before .args .s .now) (c .before .if2 .left) (c .if3 .left)

@@ -3,6 +3,7 @@ use mathlib.Core.Path.{ap, _∙_}
 use lib.ListN.{length}
 use Rattle.text.specs.Text.{bounded}
 use Rattle.text.specs.ReturnLaws.{Read, digits-wrong, digits-large, read-more, digits-end}
+use native.Mathlib.Omega.{arith}
 use borrow.Author.Needs.{needs}
 use Rattle.text.proofs.numbers.digits.Statement.{statement}
 use Rattle.text.proofs.numbers.digits.Tie as tie
@@ -26,13 +27,13 @@ cast-d : tie.Need-cast-d Inv-loop μ-loop
 cast-d c = search needs
 
 returns : tie.Need-returns Inv-loop μ-loop
-returns c = let l = c .before .before .before .before .loop in digits-wrong (c .before .before .before .before .before .before .args .s .now) (l .i) (l .value) (c .before .before .before .loop-test .taken) (c .before .digit .ensures) (c .if1 .taken) ∙ ap bounded (l .inv .rest)
+returns c = let l = c .before .before .before .before .loop in digits-wrong (c .before .before .before .before .before .before .args .s .now) (l .i) (l .value) (c .before .before .before .loop-test .taken) (c .before .digit .ensures) (omega arith) ∙ ap bounded (l .inv .rest)
 
 sub-if2 : tie.Need-sub-if2 Inv-loop μ-loop
 sub-if2 c = search needs
 
 returns-2 : tie.Need-returns-2 Inv-loop μ-loop
-returns-2 c = let l = c .before .before .before .before .before .loop in digits-large (c .before .before .before .before .before .before .before .args .s .now) (l .i) (l .value) (c .before .before .before .before .loop-test .taken) (c .before .before .digit .ensures) (c .before .if1 .left) (c .if2 .taken) ∙ ap bounded (l .inv .rest)
+returns-2 c = let l = c .before .before .before .before .before .loop in digits-large (c .before .before .before .before .before .before .before .args .s .now) (l .i) (l .value) (c .before .before .before .before .loop-test .taken) (c .before .before .digit .ensures) (omega arith) (omega arith) ∙ ap bounded (l .inv .rest)
 
 mul-value : tie.Need-mul-value Inv-loop μ-loop
 mul-value c = search needs
@@ -47,7 +48,7 @@ loop-less : tie.Need-loop-less Inv-loop μ-loop
 loop-less c = search needs
 
 loop-again : tie.Need-loop-again Inv-loop μ-loop
-loop-again c = let l = c .before .before .before .before .before .loop in read-more (c .before .before .before .before .before .before .before .args .s .now) (l .i) (l .value) (c .before .before .before .before .loop-test .taken) (c .before .before .digit .ensures) (l .inv) (c .before .if1 .left) (c .if2 .left)
+loop-again c = let l = c .before .before .before .before .before .loop in read-more (c .before .before .before .before .before .before .before .args .s .now) (l .i) (l .value) (c .before .before .before .before .loop-test .taken) (c .before .before .digit .ensures) (l .inv) (omega arith) (omega arith)
 
 returns-3 : tie.Need-returns-3 Inv-loop μ-loop
 returns-3 c = let l = c .before .loop in digits-end (c .before .before .before .args .s .now) (l .i) (l .value) (c .loop-test .left) (l .inv .fits) ∙ ap bounded (l .inv .rest)
