@@ -43,7 +43,7 @@ module _ (s : List ℕ) (i v : ℕ) {d : ℕ} (within : i < length s) (digit : d
   unfolding digitsFrom bounded
   digits-wrong h = rw (drop-cons s i 0 within, ← digit, le-ltb d 10 (omega arith))
 
-  pub digits-more : d ≤ 9 → digitsFrom (v * 10 + d) (drop (i + 1) s) ≡ digitsFrom v (drop i s)
+  digits-more : d ≤ 9 → digitsFrom (v * 10 + d) (drop (i + 1) s) ≡ digitsFrom v (drop i s)
   unfolding digitsFrom
   digits-more h = rw (add-one, drop-cons s i 0 within, ← digit, lt-ltb d 10 (omega arith))
 
