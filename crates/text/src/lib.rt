@@ -1,0 +1,14 @@
+// The text of a line (document 01, "Line program"): its fields, decimal numbers and hexadecimal bytes.
+mod digit;
+mod fields;
+mod hexadecimal;
+mod numbers;
+
+pub use fields::Field;
+pub use fields::Split;
+pub use fields::field_at;
+pub use fields::split_six;
+pub use hexadecimal::Decoded;
+pub use hexadecimal::hex;
+pub use numbers::Number;
+pub use numbers::decimal;
