@@ -45,11 +45,16 @@ fieldsAnswer key time count challenge algorithm digits =
     (λ a. given (decimalOf digits)
     (λ n. passwordText a k t c challenge n)))))
 
+-- a field of a line by its number
+abbrev pub fieldOf : List ℕ → ℕ → List ℕ
+fieldOf line i = getD (fieldsOf line) i []
+
 -- what is printed for a line, without the line feed
 unfoldable pub lineAnswer : List ℕ → List ℕ
 lineAnswer line =
-    (let field = λ (i : ℕ). getD (fieldsOf line) i [] in
-    cond (eqb (length (fieldsOf line)) 6) (fieldsAnswer (field 0) (field 1) (field 2) (field 3) (field 4) (field 5)) refusal)
+    cond (eqb (length (fieldsOf line)) 6)
+    (fieldsAnswer (fieldOf line 0) (fieldOf line 1) (fieldOf line 2) (fieldOf line 3) (fieldOf line 4) (fieldOf line 5))
+    refusal
 
 -- the same as the function gives it: how many bytes, and the bytes with zeros behind them
 unfoldable pub printedOf : List ℕ → Printed
