@@ -13,7 +13,7 @@ use Rattle.words.specs.Bytes.{beAt, beBytes, putBe}
 use Rattle.words.specs.BytesLaws.{length-beBytes, beAt-split, beBytes-split, beBytes-mod}
 use Rattle.sm3.specs.Sm3.{sm3Of, sm3Answer}
 use Rattle.sm3.specs.declared.Hash.{Hash}
-use Rattle.sm4.specs.Sm4.{encryptWith, reversed, roundKeys, sm4Of, encryptAnswer, keysAnswer}
+use Rattle.sm4.specs.Sm4.{encryptWith, reversed, roundKeys, sm4Of, sm4Answer, encryptAnswer, keysAnswer}
 use Rattle.sm4.specs.Sm4Laws.{length-roundKeys}
 use Rattle.sm4.specs.declared.encryption.Cipher.{Cipher}
 use Rattle.sm4.specs.declared.schedule.Keys.{Keys}
@@ -193,3 +193,13 @@ hashed-of key id {first} {buffer} {at} {end} {h} {r} k l a f e b s c =
     let small : length (key ++ filled id) < 2 ^ 32 = rw (← m, length-take) (omega arith) in
     let d : h .digest ≡ sm3Of (key ++ filled id) = rw (s, m, lt-ltb (length (key ++ filled id)) (2 ^ 32) small) in
     c ∙ rw d
+
+-- one block: the cipher with a fresh key
+pub one-block : (key id : List ℕ) {buffer : List ℕ} {end : ℕ} {c : Cipher} → 16 ≤ length key → length id ≤ 44 → end ≡ 0 + max 16 (length id) → end ≡ 16
+    → buffer ≡ put (replicate 48 0) 0 id → c ≡ sm4Answer (take (16 - 0) (drop 0 key)) (take (16 - 0) (drop 0 buffer)) → c .block ≡ chained key (filled id)
+unfolding chain blockAt sm4Answer sm4Of
+one-block key id {buffer} {end} {c} k l e s b m =
+    let room : 16 ≤ length buffer = rw (b, zeros-laid 48 id (omega arith), length-append, length-replicate) (omega arith) in
+    let out : c .block ≡ chain (prepared 4 key) buffer (1 - 1) = rw (m, length-take-le 16 key k, length-take-le 16 buffer room) in
+    let one : 1 ≡ (0 + max 16 (length id) + 15) / 16 = omega arith in
+    chained-of key id l refl b one out

@@ -3,11 +3,12 @@ mod arguments;
 mod chain;
 mod cut;
 mod id;
+mod once;
 pub mod prepared;
 
 use arguments::arguments_ok;
-use prepared::password_with;
-use prepared::prepare;
+use cut::put_decimals;
+use once::truncated_once;
 use words::codes::BAD_ARGUMENT;
 use words::codes::DONE;
 ghost use mathlib.Core.Path.{_≡_};
@@ -38,7 +39,7 @@ pub fn password(
     if out.len() < digits {
         return BAD_ARGUMENT;
     }
-    let keys = prepare(algorithm, key);
-    password_with(algorithm, key, &keys, time, count, challenge, digits, out);
+    let sum = truncated_once(algorithm, key, time, count, challenge, digits);
+    put_decimals(sum, digits, out);
     DONE
 }

@@ -29,7 +29,7 @@ pub fn prepare(algorithm: u8, key: &[u8]) -> [u32; 32]
 }
 
 // The SM3 way (6.2.2), cut.
-fn hashed(key: &[u8], time: Factor, count: Factor, challenge: &[u8]) -> u32
+pub(crate) fn hashed(key: &[u8], time: Factor, count: Factor, challenge: &[u8]) -> u32
     requires { ⌜ length (now key) ≤ 32 ⌝ }
     requires { ⌜ length (now challenge) ≤ 32 ⌝ }
     ensures { λ r. ⌜ r ≡ cut (sm3Of (now (key .entry) ++ filled (idOf time count (now (challenge .entry))))) ⌝ }
@@ -42,7 +42,13 @@ fn hashed(key: &[u8], time: Factor, count: Factor, challenge: &[u8]) -> u32
 }
 
 // The SM4 way (6.2.3), cut.
-fn ciphered(key: &[u8], keys: &[u32], time: Factor, count: Factor, challenge: &[u8]) -> u32
+pub(crate) fn ciphered(
+    key: &[u8],
+    keys: &[u32],
+    time: Factor,
+    count: Factor,
+    challenge: &[u8],
+) -> u32
     requires { ⌜ now keys ≡ prepared 4 (now key) ⌝ }
     requires { ⌜ length (now challenge) ≤ 32 ⌝ }
     ensures { λ r. ⌜ r ≡ cut (chained (now (key .entry)) (filled (idOf time count (now (challenge .entry))))) ⌝ }

@@ -5,3 +5,4 @@ pub mod Sm4
 pub mod Sm4Laws
 pub mod ReturnLaws
 pub mod Sm4Examples
+pub mod SidesLaws

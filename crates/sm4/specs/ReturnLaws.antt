@@ -1,20 +1,18 @@
 -- What each function of the code returns, over what the functions that it calls ensure.
 use Prim.Native.Nat.{ℕ, suc, _+_, _*_, _-_, _/_, _%_, _^_, _≤_, _<_}
-use mathlib.Core.Path.{_≡_, refl, sym, ap, _∙_}
-use mathlib.Core.Bool.{Bool, true, false}
+use mathlib.Core.Path.{_≡_, refl, sym, _∙_}
 use mathlib.Core.List.{List, _++_, append-nil}
 use native.Mathlib.Nat.{add-zero, mod-eq-of-lt}
 use native.Mathlib.Numerals.{add-one}
 use native.Mathlib.Omega.{arith}
 use borrow.Author.Tests.{eq-eqb, ne-eqb}
-use lib.Dec.{eqb}
 use lib.ListN.{length, getD, set, take, drop, replicate}
 use lib.Seq.{getD-drop, take-suc-set, take-all, append-snoc}
 use Rattle.words.specs.Bytes.{beBytes, putBe}
-use Rattle.words.specs.Codes.{done, badArgument}
+use Rattle.words.specs.Codes.{done}
 use Rattle.sm4.specs.Sbox.{substitute}
-use Rattle.sm4.specs.Sm4.{word, tau, linear, linearKey, round, step, steps, wordsOf, reversed, encryptWith, masked, ck, cks, keysFrom, roundKeys, sm4Of, keysRefused, keysAnswer, cipherRefused, encryptAnswer, sm4Answer}
-use Rattle.sm4.specs.Sm4Laws.{steps-add, cks-at, length-roundKeys}
+use Rattle.sm4.specs.Sm4.{word, tau, linear, linearKey, round, step, steps, wordsOf, reversed, encryptWith, masked, ck, cks, keysFrom, roundKeys, keysRefused, keysAnswer, cipherRefused, encryptAnswer}
+use Rattle.sm4.specs.Sm4Laws.{steps-add, cks-at}
 use Rattle.sm4.specs.declared.round.Quad.{Quad}
 use Rattle.sm4.specs.declared.schedule.Keys.{Keys}
 use Rattle.sm4.specs.declared.encryption.Cipher.{Cipher}
@@ -103,22 +101,3 @@ module _ (ks block : List ℕ) where
       → _≡_ {A = Cipher} (record { code = done; block = out }) (encryptAnswer ks block)
   unfolding encryptAnswer encryptWith
   encrypt-done l m eq es eo = rw (eq-eqb (length ks) 32 l, eq-eqb (length block) 16 m, eo, es, eq)
-
--- ---- both
-
-module _ (key block : List ℕ) {k : Keys} (made : k ≡ keysAnswer key) where
-  refused-by : (right : Bool) → eqb (length key) 16 ≡ right → (k .code ≡ done → ⊥) → cipherRefused ≡ sm4Answer key block
-  unfolding keysAnswer sm4Answer
-  refused-by true e n = absurd (n (ap (λ (x : Keys). x .code) made ∙ rw e))
-  refused-by false e n = rw e
-
-  pub sm4-refused : (k .code ≡ done → ⊥) → cipherRefused ≡ sm4Answer key block
-  sm4-refused n = refused-by (eqb (length key) 16) refl n
-
-  done-by : (right : Bool) → eqb (length key) 16 ≡ right → k .code ≡ done → encryptAnswer (k .words) block ≡ sm4Answer key block
-  unfolding keysAnswer encryptAnswer sm4Answer sm4Of
-  done-by true e d = let f : k .words ≡ roundKeys key = ap (λ (x : Keys). x .words) made ∙ rw e in rw (e, f, length-roundKeys key)
-  done-by false e d = let f : k .code ≡ badArgument = ap (λ (x : Keys). x .code) made ∙ rw e in absurd (omega arith)
-
-  pub sm4-done : {r : Cipher} → k .code ≡ done → r ≡ encryptAnswer (k .words) block → r ≡ sm4Answer key block
-  sm4-done d er = er ∙ done-by (eqb (length key) 16) refl d

@@ -2,13 +2,12 @@
 use crate::round::Quad;
 use crate::round::rounds;
 use crate::round::words_of;
-use crate::schedule::round_keys;
 use crate::table::sbox;
 use words::bytes::put_be;
 use words::codes::BAD_ARGUMENT;
 use words::codes::DONE;
 ghost use mathlib.Core.Path.{_≡_};
-ghost use Rattle.sm4.specs.Sm4.{reversed, cipherRefused, encryptAnswer, sm4Answer};
+ghost use Rattle.sm4.specs.Sm4.{reversed, cipherRefused, encryptAnswer};
 
 // The encrypted block, or the code that refuses the arguments, with all bytes zero.
 pub struct Cipher {
@@ -17,7 +16,7 @@ pub struct Cipher {
 }
 
 // The answer to a length other than the standard's.
-fn refused() -> Cipher
+pub(crate) fn refused() -> Cipher
     ensures { λ r. ⌜ r ≡ cipherRefused ⌝ }
 {
     Cipher {
@@ -27,7 +26,7 @@ fn refused() -> Cipher
 }
 
 // The reverse transformation R: the last word first.
-fn reversed(q: Quad) -> [u8; 16]
+pub(crate) fn reversed(q: Quad) -> [u8; 16]
     ensures { λ r. ⌜ r ≡ reversed q ⌝ }
 {
     let mut out = [0u8; 16];
@@ -54,16 +53,4 @@ pub fn encrypt(keys: &[u32], block: &[u8]) -> Cipher
         code: DONE,
         block: out,
     }
-}
-
-// A block of 16 bytes under a key of 16 bytes.
-pub fn sm4(key: &[u8], block: &[u8]) -> Cipher
-    ensures { λ r. ⌜ r ≡ sm4Answer (now (key .entry)) (now (block .entry)) ⌝ }
-{
-    let keys = round_keys(key);
-    if keys.code != DONE {
-        return refused();
-    }
-    let words = keys.words;
-    encrypt(&words, block)
 }

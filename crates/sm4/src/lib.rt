@@ -2,10 +2,11 @@
 mod encryption;
 mod round;
 mod schedule;
+mod sides;
 mod table;
 
 pub use encryption::Cipher;
 pub use encryption::encrypt;
-pub use encryption::sm4;
 pub use schedule::Keys;
 pub use schedule::round_keys;
+pub use sides::sm4;

@@ -66,11 +66,19 @@ fn linear_key(b: u32) -> u32
 }
 
 // The round function F (6.1).
-fn round(table: &[u8], a: u32, b: u32, c: u32, d: u32, key: u32) -> u32
+pub(crate) fn round(table: &[u8], a: u32, b: u32, c: u32, d: u32, key: u32) -> u32
     requires { ⌜ now table ≡ sbox ⌝ }
     ensures { λ r. ⌜ r ≡ round linear a b c d key ⌝ }
 {
     a ^ linear(tau(table, b ^ c ^ d ^ key))
+}
+
+// The same with L', as the key schedule has it (7.3 a)).
+pub(crate) fn key_round(table: &[u8], a: u32, b: u32, c: u32, d: u32, constant: u32) -> u32
+    requires { ⌜ now table ≡ sbox ⌝ }
+    ensures { λ r. ⌜ r ≡ round linearKey a b c d constant ⌝ }
+{
+    a ^ linear_key(tau(table, b ^ c ^ d ^ constant))
 }
 
 // One step of the key schedule (7.3 a)).
@@ -82,7 +90,7 @@ pub(crate) fn key_step(table: &[u8], q: Quad, constant: u32) -> Quad
         a: q.b,
         b: q.c,
         c: q.d,
-        d: q.a ^ linear_key(tau(table, q.b ^ q.c ^ q.d ^ constant)),
+        d: key_round(table, q.a, q.b, q.c, q.d, constant),
     }
 }
 

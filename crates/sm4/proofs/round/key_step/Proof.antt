@@ -1,17 +1,14 @@
 use borrow.Author.Needs.{needs}
-use Rattle.sm4.specs.Sm4.{step, round}
+use Rattle.sm4.specs.Sm4.{step}
 use Rattle.sm4.proofs.round.key_step.Statement.{statement}
 use Rattle.sm4.proofs.round.key_step.Tie as tie
 
-tau-requires : tie.Need-tau-requires
-tau-requires c κs = search needs
-
-linear-key-requires : tie.Need-linear-key-requires
-linear-key-requires c κs = search needs
+key-round-requires : tie.Need-key-round-requires
+key-round-requires c κs = search needs
 
 returns : tie.Need-returns
-unfolding step round
+unfolding step
 returns c = cc
 
 pub key-step-spec : {M : Type 1} → statement M
-key-step-spec = tie.close (tie.spec tau-requires linear-key-requires returns)
+key-step-spec = tie.close (tie.spec key-round-requires returns)

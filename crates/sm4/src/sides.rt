@@ -1,0 +1,88 @@
+// A block under a fresh key: the key schedule and the rounds side by side, since the processor can then do both at once.
+use crate::encryption::Cipher;
+use crate::encryption::refused;
+use crate::encryption::reversed;
+use crate::round::Quad;
+use crate::round::key_round;
+use crate::round::round;
+use crate::round::words_of;
+use crate::schedule::masked;
+use crate::table::constants;
+use crate::table::sbox;
+use words::codes::DONE;
+ghost use mathlib.Core.Path.{_≡_};
+ghost use Prim.Native.Nat.{_+_, _≤_};
+ghost use lib.ListN.{length, drop};
+ghost use Rattle.sm4.specs.Sbox.{sbox};
+ghost use Rattle.sm4.specs.Sm4.{cks, sm4Answer};
+ghost use Rattle.sm4.specs.SidesLaws.{sideSteps};
+
+// The words K_i to K_i+3 and X_i to X_i+3.
+pub struct Sides {
+    pub key: Quad,
+    pub state: Quad,
+}
+
+// Four steps of the key schedule, each followed by the round with the key that it gives.
+fn four_sides(table: &[u8], ck: &[u32], s: Sides, i: usize) -> Sides
+    requires { ⌜ now table ≡ sbox ⌝ }
+    requires { ⌜ i + 4 ≤ length (now ck) ⌝ }
+    ensures { λ r. ⌜ r ≡ sideSteps (drop i (now (ck .entry))) 4 s ⌝ }
+{
+    let k = s.key;
+    let q = s.state;
+    let ka = key_round(table, k.a, k.b, k.c, k.d, ck[i]);
+    let a = round(table, q.a, q.b, q.c, q.d, ka);
+    let kb = key_round(table, k.b, k.c, k.d, ka, ck[i + 1]);
+    let b = round(table, q.b, q.c, q.d, a, kb);
+    let kc = key_round(table, k.c, k.d, ka, kb, ck[i + 2]);
+    let c = round(table, q.c, q.d, a, b, kc);
+    let kd = key_round(table, k.d, ka, kb, kc, ck[i + 3]);
+    let d = round(table, q.d, a, b, c, kd);
+    let key = Quad {
+        a: ka,
+        b: kb,
+        c: kc,
+        d: kd,
+    };
+    let state = Quad { a, b, c, d };
+    Sides { key, state }
+}
+
+// All 32.
+pub(crate) fn all_sides(table: &[u8], ck: &[u32], start: Sides) -> Sides
+    requires { ⌜ now table ≡ sbox ⌝ }
+    requires { ⌜ now ck ≡ cks ⌝ }
+    ensures { λ r. ⌜ r ≡ sideSteps cks 32 start ⌝ }
+{
+    let mut s = start;
+    let mut i = 0;
+    while i < 32 {
+        s = four_sides(table, ck, s, i);
+        i += 4;
+    }
+    s
+}
+
+// A block of 16 bytes under a key of 16 bytes.
+pub fn sm4(key: &[u8], block: &[u8]) -> Cipher
+    ensures { λ r. ⌜ r ≡ sm4Answer (now (key .entry)) (now (block .entry)) ⌝ }
+{
+    if key.len() != 16 {
+        return refused();
+    }
+    if block.len() != 16 {
+        return refused();
+    }
+    let table = sbox();
+    let ck = constants();
+    let start = Sides {
+        key: masked(words_of(key)),
+        state: words_of(block),
+    };
+    let end = all_sides(&table, &ck, start).state;
+    Cipher {
+        code: DONE,
+        block: reversed(end),
+    }
+}
