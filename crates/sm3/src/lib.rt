@@ -75,7 +75,8 @@ pub fn sm3(message: &[u8]) -> Hash
     }
     let t = table::constants();
     let blocks = padding::last_blocks(len);
-    let end = padding::end(message, blocks);
+    let mut end = [0u8; 128];
+    padding::put_end(message, blocks, &mut end);
     let value = iterate(start(), message, len / 64, &t);
     let last = iterate(value, &end, blocks, &t);
     Hash {

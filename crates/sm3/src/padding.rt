@@ -15,19 +15,17 @@ pub(crate) fn last_blocks(len: usize) -> usize
     if len % 64 < 56 { 1 } else { 2 }
 }
 
-// The last blocks, of which the buffer has room for two.
-pub(crate) fn end(message: &[u8], blocks: usize) -> [u8; 128]
+// Puts the last blocks into a buffer of zeros, which has room for two.
+pub(crate) fn put_end(message: &[u8], blocks: usize, out: &mut [u8])
     requires { ⌜ length (now message) < 2 ^ 32 ⌝ }
     requires { ⌜ blocks ≡ lastBlocks (length (now message)) ⌝ }
-    ensures { λ r. ⌜ length r ≡ 128 ⌝ }
-    ensures { λ r. ⌜ r ≡ drop (64 * (length (now (message .entry)) / 64)) (padded (now (message .entry))) ++ replicate (128 - 64 * blocks) 0 ⌝ }
+    requires { ⌜ now out ≡ replicate 128 0 ⌝ }
+    ensures { λ _. ⌜ now (out .exit) ≡ drop (64 * (length (now (message .entry)) / 64)) (padded (now (message .entry))) ++ replicate (128 - 64 * blocks) 0 ⌝ }
 {
     let len = message.len();
     let whole = len / 64 * 64;
     let rest = len - whole;
-    let mut out = [0u8; 128];
-    copy(&message[whole..], &mut out);
+    copy(&message[whole..], out);
     out[rest] = 0x80;
-    put_be(&mut out, 64 * blocks - 8, 8, 8 * len as u64);
-    out
+    put_be(out, 64 * blocks - 8, 8, 8 * len as u64);
 }

@@ -1,7 +1,7 @@
 use borrow.Author.Needs.{needs}
+use Prim.Native.Nat.{_*_, _-_}
 use mathlib.Core.Path.{_∙_}
 use native.Mathlib.Omega.{arith}
-use Prim.Native.Nat.{_*_, _-_}
 use lib.ListN.{length, replicate}
 use Rattle.sm3.specs.Sm3Laws.{last-blocks-fit, sm3-of, answer-hashed, answer-refused}
 use Rattle.sm3.proofs.sm3.Statement.{statement}
@@ -16,8 +16,11 @@ constants-requires c κs = search needs
 last-blocks-requires : tie.Need-last-blocks-requires
 last-blocks-requires c κs = search needs
 
-end-requires : tie.Need-end-requires
-end-requires c κs = search needs
+slice-aggregate-put-end : tie.Need-slice-aggregate-put-end
+slice-aggregate-put-end c = search needs
+
+put-end-requires : tie.Need-put-end-requires
+put-end-requires c κs = search needs
 
 start-requires : tie.Need-start-requires
 start-requires c κs = search needs
@@ -35,15 +38,15 @@ slice-aggregate-iterate-3 : tie.Need-slice-aggregate-iterate-3
 slice-aggregate-iterate-3 c = search needs
 
 iterate-requires-2 : tie.Need-iterate-requires-2
-iterate-requires-2 c κs = let room = rw (← c .before .before .before .before .before .before .last-blocks .ensures) at (last-blocks-fit (length (c .before .before .before .before .before .before .before .before .before .before .args .message .now))) in (omega (arith, c .before .before .before .before .before .end .ensures .0), c .before .before .before .before .before .before .before .constants .ensures)
+iterate-requires-2 c κs = let room = rw (← c .before .before .before .before .before .before .before .before .last-blocks .ensures) at (last-blocks-fit (length (c .before .before .before .before .before .before .before .before .before .before .before .before .args .message .now))) in (omega (arith, c .before .before .before .before .before .before .put-end .kept .1 .1 .0), c .before .before .before .before .before .before .before .before .before .constants .ensures)
 
 digest-requires : tie.Need-digest-requires
 digest-requires c κs = search needs
 
 returns-2 : tie.Need-returns-2
-returns-2 c = answer-hashed (c .before .before .before .before .before .before .before .before .before .before .before .before .args .message .now) (omega arith)
+returns-2 c = answer-hashed (c .before .before .before .before .before .before .before .before .before .before .before .before .before .before .args .message .now) (omega arith)
     (c .digest .ensures
-    ∙ sm3-of (c .before .before .before .before .before .before .before .before .before .before .before .before .args .message .now) (replicate (128 - 64 * c .before .before .before .before .before .before .before .before .last-blocks .result) 0) (c .before .before .before .before .before .before .before .before .last-blocks .result) (c .before .before .before .before .before .before .before .before .last-blocks .ensures) (c .before .before .before .before .before .before .before .end .ensures .1)
+    ∙ sm3-of (c .before .before .before .before .before .before .before .before .before .before .before .before .before .before .args .message .now) (replicate (128 - 64 * c .before .before .before .before .before .before .before .before .before .before .last-blocks .result) 0) (c .before .before .before .before .before .before .before .before .before .before .last-blocks .result) (c .before .before .before .before .before .before .before .before .before .before .last-blocks .ensures) (c .before .before .before .before .before .before .before .before .put-end .ensures)
     (c .before .before .before .before .iterate .ensures ∙ rw (c .before .before .before .before .before .before .start .ensures))
     (c .before .iterate2 .ensures))
 
@@ -54,7 +57,8 @@ sm3-spec =
     returns
     constants-requires
     last-blocks-requires
-    end-requires
+    slice-aggregate-put-end
+    put-end-requires
     start-requires
     slice-aggregate-iterate
     iterate-requires
