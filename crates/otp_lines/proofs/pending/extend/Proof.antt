@@ -1,0 +1,29 @@
+use borrow.Author.Needs.{needs}
+use Rattle.otp_lines.proofs.pending.extend.Statement.{statement}
+use Rattle.otp_lines.proofs.pending.extend.Tie as tie
+use Rattle.otp_lines.proofs.pending.extend.Reads as reads
+use Rattle.otp_lines.proofs.pending.extend.Lts as lts
+use Rattle.otp_lines.proofs.output.put.Reads as put-reads
+
+-- src/pending.rt:22:18
+add-if1 : tie.Need-add-if1
+add-if1 c = search needs
+
+-- src/pending.rt:23:9
+returns : tie.Need-returns
+returns c = ?
+
+-- src/pending.rt:25:5
+put-requires : tie.Need-put-requires
+put-requires c κs = search needs
+
+-- src/pending.rt:16:1
+same-length : tie.Need-same-length
+same-length c = search needs
+
+-- src/pending.rt:16:1
+returns-2 : tie.Need-returns-2
+returns-2 c = ?
+
+pub extend-spec : {M : Type 1} → statement M
+extend-spec = tie.close (tie.spec add-if1 returns put-requires same-length returns-2)

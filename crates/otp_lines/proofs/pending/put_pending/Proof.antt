@@ -1,0 +1,62 @@
+use borrow.Author.Needs.{needs}
+use Rattle.otp_lines.proofs.pending.put_pending.Statement.{statement}
+use Rattle.otp_lines.proofs.pending.put_pending.Tie as tie
+use Rattle.otp_lines.proofs.pending.put_pending.Reads as reads
+use Rattle.otp_lines.proofs.pending.put_pending.Lts as lts
+use Rattle.otp_lines.proofs.output.put.Reads as put-reads
+use Rattle.otp_lines.proofs.output.put_answer.Reads as put-answer-reads
+
+-- src/pending.rt:36:29
+slice-aggregate-put : tie.Need-slice-aggregate-put
+slice-aggregate-put c = search needs
+
+-- src/pending.rt:36:9
+put-requires : tie.Need-put-requires
+put-requires c κs = search needs
+
+-- src/pending.rt:36:9
+same-length : tie.Need-same-length
+same-length c = search needs
+
+-- src/pending.rt:36:9
+returns : tie.Need-returns
+returns c = ?
+
+-- src/pending.rt:38:25
+sub-put-answer : tie.Need-sub-put-answer
+sub-put-answer c = search needs
+
+-- src/pending.rt:38:25
+part-put-answer-start : tie.Need-part-put-answer-start
+part-put-answer-start c = search needs
+
+-- src/pending.rt:38:25
+part-put-answer-end : tie.Need-part-put-answer-end
+part-put-answer-end c = search needs
+
+-- src/pending.rt:38:5
+put-answer-requires : tie.Need-put-answer-requires
+put-answer-requires c κs = search needs
+
+-- src/pending.rt:29:1
+same-length-2 : tie.Need-same-length-2
+same-length-2 c = search needs
+
+-- src/pending.rt:29:1
+returns-2 : tie.Need-returns-2
+returns-2 c = ?
+
+pub put-pending-spec : {M : Type 1} → statement M
+put-pending-spec =
+    tie.close
+    (tie.spec
+    slice-aggregate-put
+    put-requires
+    same-length
+    returns
+    sub-put-answer
+    part-put-answer-start
+    part-put-answer-end
+    put-answer-requires
+    same-length-2
+    returns-2)
