@@ -15,7 +15,7 @@ use Rattle.password_lines.specs.Line.{lineAnswer, refusal, printedOf}
 use Rattle.password_lines.specs.declared.Printed.{Printed}
 use Rattle.otp_lines.specs.StandIn.{long-line, answer-length}
 use Rattle.otp_lines.specs.Stream.{lineFeed, answered, fed, finished, Held, Follows, Put}
-use Rattle.otp_lines.specs.StreamLaws.{pieces-do-not-matter, fed-line, fed-rest}
+use Rattle.otp_lines.specs.StreamLaws.{pieces-do-not-matter, fed-line, fed-rest, held-nothing}
 
 -- ---- the output
 
@@ -41,6 +41,9 @@ printed-text line e =
 pub printed-length : (line : List ℕ) {r : Printed} → r ≡ printedOf (lineAnswer line) → (r .len ≤ 10) × (length (r .bytes) ≡ 10)
 unfolding printedOf
 printed-length line e = let l = answer-length line in rw (e, length-append, length-replicate) (omega arith)
+
+pub text-length : (line : List ℕ) {r : Printed} → r ≡ printedOf (lineAnswer line) → length (take (r .len - 0) (drop 0 (r .bytes))) ≤ 10
+text-length line e = rw (printed-text line e) (answer-length line .1)
 
 module _ (s : List ℕ) (at : ℕ) (line : List ℕ) {r : Printed} {after : List ℕ} {end : ℕ} (answer : r ≡ printedOf (lineAnswer line))
     (text : Put s at (take (r .len - 0) (drop 0 (r .bytes))) after end) where
@@ -87,9 +90,6 @@ module _ (line : List ℕ) (n : ℕ) (s : List ℕ) (at : ℕ) {after : List ℕ
   pending-short l d = let z : n - 0 ≡ n = omega arith in rw (held .short l) (rw z at d)
 
 -- nothing is pending
-held-nothing : (line : List ℕ) → Held line 0 []
-held-nothing line = record { short = λ m. refl; long = λ m. absurd (omega arith) }
-
 held-none : (line : List ℕ) (n : ℕ) (p : List ℕ) → Held line n p → n ≡ 0 → p ≡ []
 held-none line n p held z = held .short (omega arith) ∙ rw z
 

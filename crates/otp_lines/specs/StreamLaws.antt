@@ -9,7 +9,7 @@ use lib.ListN.{length, take}
 use Rattle.bytes.specs.Bytes.{indexOf, indexAfter}
 use Rattle.text.specs.Text.{longer}
 use Rattle.text.specs.TextLaws.{by-test}
-use Rattle.otp_lines.specs.Stream.{lineFeed, linesOf, answered, outputOf, Progress, behind, fed, finished, fedAll}
+use Rattle.otp_lines.specs.Stream.{lineFeed, linesOf, answered, outputOf, Progress, behind, fed, finished, fedAll, Held, Follows}
 
 behind-behind : (a b : List ℕ) (r : Progress) → behind a (behind b r) ≡ behind (a ++ b) r
 behind-behind a b r = rw (append-assoc a b (r .printed))
@@ -95,3 +95,22 @@ fed-rest p (b ∷ s) e =
     (λ t. let z : 0 ≡ suc (length s) = rw t at e in absurd (omega arith))
     (λ f. let m : suc (indexOf lineFeed s) ≡ suc (length s) = rw f at e in
     rw (f, fed-rest (p ++ (b ∷ [])) s (omega arith), append-assoc p (b ∷ []) s))
+
+-- ---- what the calls of `feed` and `finish` say together
+
+pub follows-join : {line a middle b after : List ℕ} {n k m : ℕ} {t u : List ℕ}
+    → Follows line n a middle k t → Follows middle k b after m u → Follows line n (a ++ b) after m (t ++ u)
+follows-join {a} {b} f g =
+    record {
+      pending = λ p h. rw (pieces-do-not-matter p a b) (g .pending (fed p a .pending) (f .pending p h));
+      printed = λ p h. rw (pieces-do-not-matter p a b, f .printed p h, g .printed (fed p a .pending) (f .pending p h));
+    }
+
+pub held-nothing : (line : List ℕ) → Held line 0 []
+held-nothing line = record { short = λ m. refl; long = λ m. absurd (omega arith) }
+
+-- from an empty buffer to the end of the input the output is printed
+pub follows-output : {line input after : List ℕ} {m : ℕ} {text last : List ℕ}
+    → Follows line 0 input after m text → ((p : List ℕ) → Held after m p → last ≡ finished p) → text ++ last ≡ outputOf input
+follows-output {line} {input} f g =
+    rw (f .printed [] (held-nothing line), g (fed [] input .pending) (f .pending [] (held-nothing line))) (stream-is-output input)

@@ -1,3 +1,6 @@
+use Rattle.otp_lines.specs.ReturnLaws.{text-put}
+use native.Mathlib.Omega.{arith}
+use mathlib.Core.List.{_++_}
 use borrow.Author.Needs.{needs}
 use Rattle.otp_lines.proofs.output.put.Statement.{statement}
 use Rattle.otp_lines.proofs.output.put.Tie as tie
@@ -31,7 +34,7 @@ same-length c = search needs
 
 -- src/output.rt:11:1
 returns : tie.Need-returns
-returns c = ?
+returns c = text-put (c .before .before .before .before .before .before .args .out .now) (c .before .before .before .before .before .before .args .at) (c .before .before .before .before .before .before .args .text .now) (c .before .before .before .before .before .before .pre) (c .before .before .copy .ensures .1)
 
 pub put-spec : {M : Type 1} → statement M
 put-spec =

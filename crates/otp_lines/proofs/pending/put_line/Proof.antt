@@ -1,3 +1,6 @@
+use Rattle.otp_lines.specs.ReturnLaws.{line-begun}
+use native.Mathlib.Omega.{arith}
+use mathlib.Core.List.{_++_}
 use borrow.Author.Needs.{needs}
 use Rattle.otp_lines.proofs.pending.put_line.Statement.{statement}
 use Rattle.otp_lines.proofs.pending.put_line.Tie as tie
@@ -17,7 +20,7 @@ same-length c = search needs
 
 -- src/pending.rt:50:9
 returns : tie.Need-returns
-returns c = ?
+returns c = (c .before .before .put-answer .ensures .0, λ p h. line-begun (c .before .before .before .before .before .before .before .before .args .line .now) (c .before .before .before .before .before .before .before .before .args .n) (c .before .before .before .before .before .before .before .before .args .part .now) (c .before .before .before .before .before .before .before .before .args .out .now) (c .before .before .before .before .before .before .before .before .args .at) p h (c .before .before .before .before .if1 .taken) (c .before .before .put-answer .ensures .1))
 
 -- src/pending.rt:52:9
 extend-requires : tie.Need-extend-requires
@@ -37,7 +40,7 @@ same-length-3 c = search needs
 
 -- src/pending.rt:42:1
 returns-2 : tie.Need-returns-2
-returns-2 c = ?
+returns-2 c = (c .before .before .put-pending .ensures .0, λ p h. c .before .before .put-pending .ensures .1 (p ++ c .before .before .before .before .before .before .before .before .before .before .before .before .before .args .part .now) (c .before .before .before .before .before .before .before .extend .ensures .1 p h))
 
 pub put-line-spec : {M : Type 1} → statement M
 put-line-spec =

@@ -1,3 +1,6 @@
+use Rattle.otp_lines.specs.ReturnLaws.{pending-long, pending-short}
+use native.Mathlib.Omega.{arith}
+use mathlib.Core.List.{_++_}
 use borrow.Author.Needs.{needs}
 use Rattle.otp_lines.proofs.pending.put_pending.Statement.{statement}
 use Rattle.otp_lines.proofs.pending.put_pending.Tie as tie
@@ -20,7 +23,7 @@ same-length c = search needs
 
 -- src/pending.rt:36:9
 returns : tie.Need-returns
-returns c = ?
+returns c = (omega (arith, c .before .before .put .ensures .place), λ p h. pending-long (c .before .before .before .before .before .before .before .before .args .line .now) (c .before .before .before .before .before .before .before .before .args .n) (c .before .before .before .before .before .before .before .before .args .out .now) (c .before .before .before .before .before .before .before .before .args .at) p h (c .before .before .before .before .before .if1 .taken) (c .before .before .put .ensures))
 
 -- src/pending.rt:38:25
 sub-put-answer : tie.Need-sub-put-answer
@@ -44,7 +47,7 @@ same-length-2 c = search needs
 
 -- src/pending.rt:29:1
 returns-2 : tie.Need-returns-2
-returns-2 c = ?
+returns-2 c = (c .before .before .put-answer .ensures .0, λ p h. pending-short (c .before .before .before .before .before .before .before .before .args .line .now) (c .before .before .before .before .before .before .before .before .args .n) (c .before .before .before .before .before .before .before .before .args .out .now) (c .before .before .before .before .before .before .before .before .args .at) p h (c .before .before .before .before .before .if1 .left) (c .before .before .put-answer .ensures .1))
 
 pub put-pending-spec : {M : Type 1} → statement M
 put-pending-spec =
