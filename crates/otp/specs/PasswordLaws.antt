@@ -119,6 +119,14 @@ module _ (algorithm : ℕ) (key : List ℕ) (time count : Factor) (challenge : L
   unfolding argumentsOk
   key-short = let t : leb (length key) 32 ≡ true = search (and-left, and-right) depth 12 in leb-true (length key) 32 t
 
+  pub digits-low : 6 ≤ n
+  unfolding argumentsOk
+  digits-low = let t : leb 6 n ≡ true = search (and-left, and-right) depth 12 in leb-true 6 n t
+
+  pub digits-high : n ≤ 10
+  unfolding argumentsOk
+  digits-high = let t : leb n 10 ≡ true = search (and-left, and-right) depth 12 in leb-true n 10 t
+
   pub challenge-short : length challenge ≤ 32
   unfolding argumentsOk challengeOk
   challenge-short =

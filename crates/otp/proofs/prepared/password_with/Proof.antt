@@ -2,8 +2,8 @@ use borrow.Author.Needs.{needs}
 use mathlib.Core.Path.{_∙_}
 use lib.ListN.{drop}
 use Rattle.otp.specs.PasswordLaws.{password-shown}
-use Rattle.otp.proofs.password_with.Statement.{statement}
-use Rattle.otp.proofs.password_with.Tie as tie
+use Rattle.otp.proofs.prepared.password_with.Statement.{statement}
+use Rattle.otp.proofs.prepared.password_with.Tie as tie
 
 truncated-requires : tie.Need-truncated-requires
 truncated-requires c κs = search needs

@@ -3,8 +3,8 @@ use native.Mathlib.Omega.{arith}
 use Rattle.otp.specs.Password.{idOf}
 use Rattle.otp.specs.IdLaws.{id-length}
 use Rattle.otp.specs.ChainLaws.{hashed-of}
-use Rattle.otp.proofs.hashed.Statement.{statement}
-use Rattle.otp.proofs.hashed.Tie as tie
+use Rattle.otp.proofs.prepared.hashed.Statement.{statement}
+use Rattle.otp.proofs.prepared.hashed.Tie as tie
 
 slice-aggregate-put-bytes : tie.Need-slice-aggregate-put-bytes
 slice-aggregate-put-bytes c = search needs

@@ -1,7 +1,7 @@
 use borrow.Author.Needs.{needs}
 use Rattle.otp.specs.ChainLaws.{prepared-cipher, prepared-hash}
-use Rattle.otp.proofs.prepare.Statement.{statement}
-use Rattle.otp.proofs.prepare.Tie as tie
+use Rattle.otp.proofs.prepared.prepare.Statement.{statement}
+use Rattle.otp.proofs.prepared.prepare.Tie as tie
 
 sub-round-keys : tie.Need-sub-round-keys
 sub-round-keys c = search needs

@@ -5,8 +5,8 @@ use lib.ListN.{length}
 use Rattle.otp.specs.Password.{idOf, cut}
 use Rattle.otp.specs.IdLaws.{id-length}
 use Rattle.otp.specs.ChainLaws.{length-prepared, chained-of}
-use Rattle.otp.proofs.ciphered.Statement.{statement}
-use Rattle.otp.proofs.ciphered.Tie as tie
+use Rattle.otp.proofs.prepared.ciphered.Statement.{statement}
+use Rattle.otp.proofs.prepared.ciphered.Tie as tie
 
 slice-aggregate-put-id : tie.Need-slice-aggregate-put-id
 slice-aggregate-put-id c = search needs

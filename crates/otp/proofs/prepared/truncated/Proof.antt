@@ -1,8 +1,8 @@
 use mathlib.Core.Path.{_∙_}
 use Rattle.otp.specs.Password.{idOf, filled}
 use Rattle.otp.specs.PasswordLaws.{key-short, challenge-short, known-algorithm, keyed-hashed, keyed-chained}
-use Rattle.otp.proofs.truncated.Statement.{statement}
-use Rattle.otp.proofs.truncated.Tie as tie
+use Rattle.otp.proofs.prepared.truncated.Statement.{statement}
+use Rattle.otp.proofs.prepared.truncated.Tie as tie
 
 hashed-requires : tie.Need-hashed-requires
 hashed-requires c κs = (key-short (c .before .before .before .before .args .algorithm) (c .before .before .before .before .args .key .now) (c .before .before .before .before .args .time) (c .before .before .before .before .args .count) (c .before .before .before .before .args .challenge .now) (c .before .before .before .before .args .digits) (c .before .before .before .before .pre .0), challenge-short (c .before .before .before .before .args .algorithm) (c .before .before .before .before .args .key .now) (c .before .before .before .before .args .time) (c .before .before .before .before .args .count) (c .before .before .before .before .args .challenge .now) (c .before .before .before .before .args .digits) (c .before .before .before .before .pre .0))
