@@ -1,5 +1,5 @@
 -- What each function of the code returns, over what the functions that it calls ensure.
-use Prim.Native.Nat.{ℕ, suc, _+_, _-_, _*_, _≤_, _<_}
+use Prim.Native.Nat.{ℕ, _+_, _-_, _*_, _≤_, _<_}
 use mathlib.Core.Path.{_≡_, refl, sym, ap, _∙_}
 use mathlib.Core.List.{List, [], _∷_, _++_, append-assoc, append-nil}
 use native.Mathlib.Numerals.{add-one}
@@ -9,11 +9,11 @@ use lib.Dec.{ltb}
 use lib.ListN.{length, take, drop, set, replicate, length-append, length-drop, length-replicate, take-append-drop}
 use lib.Seq.{length-take-le, take-at, take-add, take-all, take-append-seam, take-length, take-suc-set}
 use Rattle.bytes.specs.Bytes.{indexOf, slice}
-use Rattle.otp.specs.IdLaws.{put, put-part}
+use Rattle.otp.specs.IdLaws.{put-part}
 use Rattle.text.specs.TextLaws.{by-test}
 use Rattle.password_lines.specs.Line.{lineAnswer, refusal, printedOf}
 use Rattle.password_lines.specs.declared.Printed.{Printed}
-use Rattle.otp_lines.specs.StandIn.{long-line, answer-length}
+use Rattle.password_lines.specs.LineLaws.{long-line, answer-length}
 use Rattle.otp_lines.specs.Stream.{lineFeed, answered, fed, finished, Held, Follows, Put}
 use Rattle.otp_lines.specs.StreamLaws.{pieces-do-not-matter, fed-line, fed-rest, held-nothing}
 
@@ -70,9 +70,9 @@ module _ (line : List ℕ) (n : ℕ) (part : List ℕ) (size : length line ≡ 2
       record {
         short = λ m. absurd (omega arith);
         long = λ m. rw length-append
-        (by-test (ltb 256 n)
-        (λ t. omega (arith, held .long (ltb-true 256 n t)))
-        (λ f. omega (arith, held-length line n p size held (ltb-false 256 n f))));
+            (by-test (ltb 256 n)
+            (λ t. omega (arith, held .long (ltb-true 256 n t)))
+            (λ f. omega (arith, held-length line n p size held (ltb-false 256 n f))));
       }
 
   pub extend-done : {after : List ℕ} {end : ℕ} → n + length part ≤ 256 → Put line n part after end → Held after end (p ++ part)
@@ -154,8 +154,13 @@ module _ (line₀ : List ℕ) (n : ℕ) (piece out₀ : List ℕ) where
         let d = length-drop at piece in
         let f : end + 1 ≡ at + (indexOf lineFeed (drop at piece) + 1) = omega arith in
         let g : end - at ≡ indexOf lineFeed (drop at piece) = omega arith in
-        rw (f, take-add at (indexOf lineFeed (drop at piece) + 1) piece, pieces-do-not-matter p (take at piece) (take (indexOf lineFeed (drop at piece) + 1) (drop at piece)),
-        fed-line (fed p (take at piece) .pending) (drop at piece) (omega arith), g)
+        rw (
+          f,
+          take-add at (indexOf lineFeed (drop at piece) + 1) piece,
+          pieces-do-not-matter p (take at piece) (take (indexOf lineFeed (drop at piece) + 1) (drop at piece)),
+          fed-line (fed p (take at piece) .pending) (drop at piece) (omega arith),
+          g,
+        )
 
     -- the rest of the piece, without a line feed
     fed-over : (p : List ℕ) → length piece ≤ end
@@ -187,7 +192,7 @@ module _ (line₀ : List ℕ) (n : ℕ) (piece out₀ : List ℕ) where
               record {
                 pending = λ p h. rw (fed-up p l) (held-nothing line′);
                 printed = λ p h. rw (fed-up p l, ← feeding .follows .printed p h)
-                (answer (fed p (take at piece) .pending) (feeding .follows .pending p h) .front);
+                    (answer (fed p (take at piece) .pending) (feeding .follows .pending p h) .front);
               };
         }
 

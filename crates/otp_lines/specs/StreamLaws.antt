@@ -1,15 +1,35 @@
--- How the input is cut into pieces never changes what is printed.
+-- What is printed at the ends of lines and of the input, and that it never changes with how the input is cut into pieces.
 use Prim.Native.Nat.{ℕ, suc, _+_, _<_}
-use mathlib.Core.Path.{_≡_, refl, sym, ap, _∙_}
+use mathlib.Core.Path.{_≡_, refl, sym}
+use mathlib.Core.Bool.{false}
 use mathlib.Core.List.{List, [], _∷_, _++_, map, flatten, append-assoc, append-nil}
-use native.Mathlib.Numerals.{add-one}
 use native.Mathlib.Omega.{arith}
 use lib.Dec.{eqb}
 use lib.ListN.{length, take}
 use Rattle.bytes.specs.Bytes.{indexOf, indexAfter}
-use Rattle.text.specs.Text.{longer}
+use Rattle.text.specs.Text.{longer, fieldsOf}
 use Rattle.text.specs.TextLaws.{by-test}
+use Rattle.password_lines.specs.Line.{lineAnswer, refusal}
 use Rattle.otp_lines.specs.Stream.{lineFeed, linesOf, answered, outputOf, Progress, behind, fed, finished, fedAll, Held, Follows}
+
+-- ---- the whole input
+
+pub nothing-printed : outputOf [] ≡ []
+unfolding outputOf linesOf flatten
+nothing-printed = refl
+
+-- an empty line is refused
+pub empty-line : answered [] ≡ refusal ++ (lineFeed ∷ [])
+unfolding lineAnswer fieldsOf
+empty-line = refl
+
+-- the last line may lack its line feed
+pub last-feed : (s : List ℕ) (b : ℕ) → eqb b lineFeed ≡ false → linesOf (s ++ (b ∷ lineFeed ∷ [])) ≡ linesOf (s ++ (b ∷ []))
+unfolding linesOf longer
+last-feed [] b f = rw f
+last-feed (x ∷ s) b f = rw (last-feed s b f)
+
+-- ---- the input in pieces
 
 behind-behind : (a b : List ℕ) (r : Progress) → behind a (behind b r) ≡ behind (a ++ b) r
 behind-behind a b r = rw (append-assoc a b (r .printed))

@@ -1,6 +1,6 @@
 // What is printed, put into the output one text behind the other.
-use crate::stand_in::answer;
 use bytes::copy;
+use password_lines::answer;
 ghost use Prim.Native.Nat.{_+_, _≤_};
 ghost use lib.ListN.{length};
 ghost use Rattle.otp_lines.specs.Stream.{answered, Put};
@@ -17,7 +17,7 @@ pub(crate) fn put(out: &mut [u8], at: usize, text: &[u8]) -> usize
     end
 }
 
-// Puts a line's answer and a line feed at at.
+// Puts a line's answer and a line feed at at, and answers where they end.
 pub(crate) fn put_answer(out: &mut [u8], at: usize, line: &[u8]) -> usize
     requires { ⌜ at + 11 ≤ length (now out) ⌝ }
     ensures { λ r. ⌜ r ≤ at + 11 ⌝ }

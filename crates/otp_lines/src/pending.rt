@@ -8,11 +8,12 @@ ghost use Prim.Native.Nat.{ℕ, _+_, _≤_};
 ghost use lib.ListN.{length};
 ghost use Rattle.otp_lines.specs.Stream.{answered, Held, Put};
 
-const LONGEST: usize = 256;
+pub(crate) const LONGEST: usize = 256;
 
+// Stands for the length of every longer line.
 const TOO_LONG: usize = 257;
 
-// The pending line, of n bytes, and then part; answers its length.
+// Puts part behind the pending line, of n bytes, and answers how many bytes it has then.
 pub(crate) fn extend(line: &mut [u8], n: usize, part: &[u8]) -> usize
     requires { ⌜ length (now line) ≡ 256 ⌝ }
     requires { ⌜ n ≤ 257 ⌝ }
@@ -25,7 +26,7 @@ pub(crate) fn extend(line: &mut [u8], n: usize, part: &[u8]) -> usize
     put(line, n, part)
 }
 
-// Puts the pending line's answer at at.
+// Puts the pending line's answer at at, and answers where it ends.
 pub(crate) fn put_pending(out: &mut [u8], at: usize, line: &[u8], n: usize) -> usize
     requires { ⌜ length (now line) ≡ 256 ⌝ }
     requires { ⌜ at + 11 ≤ length (now out) ⌝ }
@@ -38,7 +39,7 @@ pub(crate) fn put_pending(out: &mut [u8], at: usize, line: &[u8], n: usize) -> u
     put_answer(out, at, &line[0..n])
 }
 
-// Puts the answer of the line that part ends at at. A line that is wholly in part is read where it stands.
+// Puts the answer of the line that part ends. A line that is wholly in part is read where it stands.
 pub(crate) fn put_line(out: &mut [u8], at: usize, line: &mut [u8], n: usize, part: &[u8]) -> usize
     requires { ⌜ length (now line) ≡ 256 ⌝ }
     requires { ⌜ n ≤ 257 ⌝ }

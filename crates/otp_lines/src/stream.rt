@@ -5,10 +5,10 @@ use crate::pending::put_line;
 use crate::pending::put_pending;
 use bytes::scan::find;
 ghost use mathlib.Core.Path.{_≡_};
-ghost use mathlib.Core.List.{List, _++_};
-ghost use Prim.Native.Nat.{ℕ, _+_, _*_, _≤_};
+ghost use mathlib.Core.List.{List};
+ghost use Prim.Native.Nat.{ℕ, _*_, _≤_};
 ghost use lib.ListN.{length, take};
-ghost use Rattle.otp_lines.specs.Stream.{answered, finished, Held, Follows, Put};
+ghost use Rattle.otp_lines.specs.Stream.{finished, Held, Follows};
 
 // The pending line's length, and how many bytes are to be printed.
 pub(crate) struct Fed {

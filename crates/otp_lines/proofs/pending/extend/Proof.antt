@@ -1,30 +1,21 @@
 use Rattle.otp_lines.specs.ReturnLaws.{extend-long, extend-done}
 use native.Mathlib.Omega.{arith}
-use mathlib.Core.List.{_++_}
 use borrow.Author.Needs.{needs}
 use Rattle.otp_lines.proofs.pending.extend.Statement.{statement}
 use Rattle.otp_lines.proofs.pending.extend.Tie as tie
-use Rattle.otp_lines.proofs.pending.extend.Reads as reads
-use Rattle.otp_lines.proofs.pending.extend.Lts as lts
-use Rattle.otp_lines.proofs.output.put.Reads as put-reads
 
--- src/pending.rt:22:18
 add-if1 : tie.Need-add-if1
 add-if1 c = search needs
 
--- src/pending.rt:23:9
 returns : tie.Need-returns
 returns c = (omega arith, λ p h. extend-long (c .before .before .before .args .line .now) (c .before .before .before .args .n) (c .before .before .before .args .part .now) (c .before .before .before .pre .0) p h (c .if1 .taken))
 
--- src/pending.rt:25:5
 put-requires : tie.Need-put-requires
 put-requires c κs = search needs
 
--- src/pending.rt:16:1
 same-length : tie.Need-same-length
 same-length c = search needs
 
--- src/pending.rt:16:1
 returns-2 : tie.Need-returns-2
 returns-2 c = (omega (arith, c .before .before .put .ensures .place), λ p h. extend-done (c .before .before .before .before .before .before .before .args .line .now) (c .before .before .before .before .before .before .before .args .n) (c .before .before .before .before .before .before .before .args .part .now) (c .before .before .before .before .before .before .before .pre .0) p h (c .before .before .before .before .if1 .left) (c .before .before .put .ensures))
 

@@ -1,44 +1,30 @@
 use Rattle.otp_lines.specs.ReturnLaws.{line-begun}
-use native.Mathlib.Omega.{arith}
 use mathlib.Core.List.{_++_}
 use borrow.Author.Needs.{needs}
 use Rattle.otp_lines.proofs.pending.put_line.Statement.{statement}
 use Rattle.otp_lines.proofs.pending.put_line.Tie as tie
-use Rattle.otp_lines.proofs.pending.put_line.Reads as reads
-use Rattle.otp_lines.proofs.pending.put_line.Lts as lts
-use Rattle.otp_lines.proofs.output.put_answer.Reads as put-answer-reads
-use Rattle.otp_lines.proofs.pending.extend.Reads as extend-reads
-use Rattle.otp_lines.proofs.pending.put_pending.Reads as put-pending-reads
 
--- src/pending.rt:50:9
 put-answer-requires : tie.Need-put-answer-requires
 put-answer-requires c κs = search needs
 
--- src/pending.rt:50:9
 same-length : tie.Need-same-length
 same-length c = search needs
 
--- src/pending.rt:50:9
 returns : tie.Need-returns
 returns c = (c .before .before .put-answer .ensures .0, λ p h. line-begun (c .before .before .before .before .before .before .before .before .args .line .now) (c .before .before .before .before .before .before .before .before .args .n) (c .before .before .before .before .before .before .before .before .args .part .now) (c .before .before .before .before .before .before .before .before .args .out .now) (c .before .before .before .before .before .before .before .before .args .at) p h (c .before .before .before .before .if1 .taken) (c .before .before .put-answer .ensures .1))
 
--- src/pending.rt:52:9
 extend-requires : tie.Need-extend-requires
 extend-requires c κs = search needs
 
--- src/pending.rt:53:5
 put-pending-requires : tie.Need-put-pending-requires
 put-pending-requires c κs = search needs
 
--- src/pending.rt:42:1
 same-length-2 : tie.Need-same-length-2
 same-length-2 c = search needs
 
--- src/pending.rt:42:1
 same-length-3 : tie.Need-same-length-3
 same-length-3 c = search needs
 
--- src/pending.rt:42:1
 returns-2 : tie.Need-returns-2
 returns-2 c = (c .before .before .put-pending .ensures .0, λ p h. c .before .before .put-pending .ensures .1 (p ++ c .before .before .before .before .before .before .before .before .before .before .before .before .before .args .part .now) (c .before .before .before .before .before .before .before .extend .ensures .1 p h))
 

@@ -1,51 +1,36 @@
 use Rattle.otp_lines.specs.ReturnLaws.{pending-long, pending-short}
 use native.Mathlib.Omega.{arith}
-use mathlib.Core.List.{_++_}
 use borrow.Author.Needs.{needs}
 use Rattle.otp_lines.proofs.pending.put_pending.Statement.{statement}
 use Rattle.otp_lines.proofs.pending.put_pending.Tie as tie
-use Rattle.otp_lines.proofs.pending.put_pending.Reads as reads
-use Rattle.otp_lines.proofs.pending.put_pending.Lts as lts
-use Rattle.otp_lines.proofs.output.put.Reads as put-reads
-use Rattle.otp_lines.proofs.output.put_answer.Reads as put-answer-reads
 
--- src/pending.rt:36:29
 slice-aggregate-put : tie.Need-slice-aggregate-put
 slice-aggregate-put c = search needs
 
--- src/pending.rt:36:9
 put-requires : tie.Need-put-requires
 put-requires c κs = search needs
 
--- src/pending.rt:36:9
 same-length : tie.Need-same-length
 same-length c = search needs
 
--- src/pending.rt:36:9
 returns : tie.Need-returns
 returns c = (omega (arith, c .before .before .put .ensures .place), λ p h. pending-long (c .before .before .before .before .before .before .before .before .args .line .now) (c .before .before .before .before .before .before .before .before .args .n) (c .before .before .before .before .before .before .before .before .args .out .now) (c .before .before .before .before .before .before .before .before .args .at) p h (c .before .before .before .before .before .if1 .taken) (c .before .before .put .ensures))
 
--- src/pending.rt:38:25
 sub-put-answer : tie.Need-sub-put-answer
 sub-put-answer c = search needs
 
--- src/pending.rt:38:25
 part-put-answer-start : tie.Need-part-put-answer-start
 part-put-answer-start c = search needs
 
--- src/pending.rt:38:25
 part-put-answer-end : tie.Need-part-put-answer-end
 part-put-answer-end c = search needs
 
--- src/pending.rt:38:5
 put-answer-requires : tie.Need-put-answer-requires
 put-answer-requires c κs = search needs
 
--- src/pending.rt:29:1
 same-length-2 : tie.Need-same-length-2
 same-length-2 c = search needs
 
--- src/pending.rt:29:1
 returns-2 : tie.Need-returns-2
 returns-2 c = (c .before .before .put-answer .ensures .0, λ p h. pending-short (c .before .before .before .before .before .before .before .before .args .line .now) (c .before .before .before .before .before .before .before .before .args .n) (c .before .before .before .before .before .before .before .before .args .out .now) (c .before .before .before .before .before .before .before .before .args .at) p h (c .before .before .before .before .before .if1 .left) (c .before .before .put-answer .ensures .1))
 

@@ -1,26 +1,18 @@
 use Rattle.otp_lines.specs.ReturnLaws.{finish-none, finish-line}
 use native.Mathlib.Omega.{arith}
-use mathlib.Core.List.{_++_}
 use borrow.Author.Needs.{needs}
 use Rattle.otp_lines.proofs.stream.finish.Statement.{statement}
 use Rattle.otp_lines.proofs.stream.finish.Tie as tie
-use Rattle.otp_lines.proofs.stream.finish.Reads as reads
-use Rattle.otp_lines.proofs.stream.finish.Lts as lts
-use Rattle.otp_lines.proofs.pending.put_pending.Reads as put-pending-reads
 
--- src/stream.rt:49:9
 returns : tie.Need-returns
 returns c = (omega arith, λ p h. finish-none (c .before .before .before .args .line .now) (c .before .before .before .args .n) p h (c .if1 .taken))
 
--- src/stream.rt:51:5
 put-pending-requires : tie.Need-put-pending-requires
 put-pending-requires c κs = search needs
 
--- src/stream.rt:42:1
 same-length : tie.Need-same-length
 same-length c = search needs
 
--- src/stream.rt:42:1
 returns-2 : tie.Need-returns-2
 returns-2 c = (omega (arith, c .before .before .put-pending .ensures .0), λ p h. finish-line (c .before .before .before .before .before .before .before .args .line .now) (c .before .before .before .before .before .before .before .args .n) (c .before .before .before .before .before .before .before .args .out .now) p (c .before .before .before .before .before .before .before .pre .0) h (c .before .before .before .before .if1 .left) (c .before .before .put-pending .ensures .1 p h))
 
