@@ -1,0 +1,30 @@
+use Rattle.otp_lines.specs.ReturnLaws.{text-put}
+use borrow.Author.Needs.{needs}
+use Rattle.otp_lines.proofs.output.put.Statement.{statement}
+use Rattle.otp_lines.proofs.output.put.Tie as tie
+
+add-end : tie.Need-add-end
+add-end c = search needs
+
+sub-copy : tie.Need-sub-copy
+sub-copy c = search needs
+
+part-copy-start : tie.Need-part-copy-start
+part-copy-start c = search needs
+
+part-copy-end : tie.Need-part-copy-end
+part-copy-end c = search needs
+
+copy-requires : tie.Need-copy-requires
+copy-requires c κs = search needs
+
+same-length : tie.Need-same-length
+same-length c = search needs
+
+returns : tie.Need-returns
+returns c = text-put (c .before .before .before .before .before .before .args .out .now) (c .before .before .before .before .before .before .args .at) (c .before .before .before .before .before .before .args .text .now) (c .before .before .before .before .before .before .pre) (c .before .before .copy .ensures .1)
+
+pub put-spec : {M : Type 1} → statement M
+put-spec =
+    tie.close
+    (tie.spec add-end sub-copy part-copy-start part-copy-end copy-requires same-length returns)

@@ -1,0 +1,23 @@
+use Rattle.otp_lines.specs.ReturnLaws.{extend-long, extend-done}
+use native.Mathlib.Omega.{arith}
+use borrow.Author.Needs.{needs}
+use Rattle.otp_lines.proofs.pending.extend.Statement.{statement}
+use Rattle.otp_lines.proofs.pending.extend.Tie as tie
+
+add-if1 : tie.Need-add-if1
+add-if1 c = search needs
+
+returns : tie.Need-returns
+returns c = (omega arith, λ p h. extend-long (c .before .before .before .args .line .now) (c .before .before .before .args .n) (c .before .before .before .args .part .now) (c .before .before .before .pre .0) p h (c .if1 .taken))
+
+put-requires : tie.Need-put-requires
+put-requires c κs = search needs
+
+same-length : tie.Need-same-length
+same-length c = search needs
+
+returns-2 : tie.Need-returns-2
+returns-2 c = (omega (arith, c .before .before .put .ensures .place), λ p h. extend-done (c .before .before .before .before .before .before .before .args .line .now) (c .before .before .before .before .before .before .before .args .n) (c .before .before .before .before .before .before .before .args .part .now) (c .before .before .before .before .before .before .before .pre .0) p h (c .before .before .before .before .if1 .left) (c .before .before .put .ensures))
+
+pub extend-spec : {M : Type 1} → statement M
+extend-spec = tie.close (tie.spec add-if1 returns put-requires same-length returns-2)
