@@ -1,19 +1,28 @@
 // Digits, decimal and hexadecimal.
 ghost use mathlib.Core.Path.{_≡_};
+ghost use mathlib.Core.Bool.{cond};
+ghost use Prim.Native.Nat.{_-_};
 ghost use Rattle.text.specs.Text.{digitValue};
 
+// a less b, or 0.
+fn minus(a: u8, b: u8) -> u8
+    ensures { λ r. ⌜ r ≡ a - b ⌝ }
+{
+    if b <= a { a - b } else { 0 }
+}
+
+fn pick(first: bool, a: u8, b: u8) -> u8
+    ensures { λ r. ⌜ r ≡ cond first a b ⌝ }
+{
+    if first { a } else { b }
+}
+
 // The value of a hexadecimal digit of either case, of which a decimal one is below 10; 16 for another byte.
+// All three values are made and one is picked: a branch on the digits of a key could not be foreseen.
 pub(crate) fn digit(b: u8) -> u8
     ensures { λ r. ⌜ r ≡ digitValue b ⌝ }
 {
-    if (0x30 <= b) & (b <= 0x39) {
-        return b - 0x30;
-    }
-    if (0x41 <= b) & (b <= 0x46) {
-        return b - 0x37;
-    }
-    if (0x61 <= b) & (b <= 0x66) {
-        return b - 0x57;
-    }
-    16
+    let lower = pick((0x61 <= b) & (b <= 0x66), minus(b, 0x57), 16);
+    let letter = pick((0x41 <= b) & (b <= 0x46), minus(b, 0x37), lower);
+    pick((0x30 <= b) & (b <= 0x39), minus(b, 0x30), letter)
 }
