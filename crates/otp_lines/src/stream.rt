@@ -3,7 +3,7 @@ use crate::output::LINE_FEED;
 use crate::pending::extend;
 use crate::pending::put_line;
 use crate::pending::put_pending;
-use bytes::scan::find;
+use text::find;
 ghost use mathlib.Core.Path.{_≡_};
 ghost use mathlib.Core.List.{List};
 ghost use Prim.Native.Nat.{ℕ, _*_, _≤_};

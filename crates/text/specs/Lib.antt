@@ -4,3 +4,4 @@ pub mod Steps
 pub mod TextLaws
 pub mod ReturnLaws
 pub mod TextExamples
+pub mod ScanLaws

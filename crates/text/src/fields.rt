@@ -1,5 +1,5 @@
 // The fields of a line: the parts between its commas.
-use bytes::scan::find;
+use crate::scan::find;
 ghost use mathlib.Core.Path.{_≡_};
 ghost use Rattle.text.specs.Text.{fieldAt, splitOf};
 

@@ -3,6 +3,7 @@ mod digit;
 mod fields;
 mod hexadecimal;
 mod numbers;
+mod scan;
 
 pub use fields::Field;
 pub use fields::Split;
@@ -12,3 +13,4 @@ pub use hexadecimal::Decoded;
 pub use hexadecimal::hex;
 pub use numbers::Number;
 pub use numbers::decimal;
+pub use scan::find;
