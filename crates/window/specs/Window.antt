@@ -1,5 +1,5 @@
 -- Steps and windows, in the order of document 01, Part 3.
-use Prim.Native.Nat.{ℕ, _+_, _-_, _*_, _/_, _^_, min, max}
+use Prim.Native.Nat.{ℕ, _+_, _-_, _/_, _^_}
 use mathlib.Core.Bool.{Bool, cond, _&&_}
 use lib.Dec.{eqb, leb, ltb}
 use Rattle.window.specs.declared.Size.{Size}
