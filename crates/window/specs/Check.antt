@@ -1,0 +1,46 @@
+-- The single and the pair check (document 01, Part 3), over any predicate "step s has this password".
+use Prim.Native.Nat.{ℕ, zero, suc, _+_}
+use mathlib.Core.Bool.{Bool, cond, _&&_}
+use mathlib.Core.Option.{Option, none, some}
+use lib.Dec.{leb, ltb}
+use Rattle.window.specs.declared.Outcome.{Outcome}
+use Rattle.window.specs.declared.Outcome.the-variants.{Accepted, Used, Wrong}
+
+abbrev pub orElse : Option ℕ → Option ℕ → Option ℕ
+orElse none b = b
+orElse (some x) b = some x
+
+-- the smallest number below n that passes the test
+unfoldable pub smallest : (ℕ → Bool) → ℕ → Option ℕ
+smallest test zero = none
+smallest test (suc n) = orElse (smallest test n) (cond (test n) (some n) none)
+
+-- a step is fresh if it is at least `next`, the first unused step; hits are candidates that match
+abbrev pub freshHit : (ℕ → Bool) → ℕ → ℕ → Bool
+freshHit hit next s = leb next s && hit s
+
+abbrev pub usedHit : (ℕ → Bool) → ℕ → ℕ → Bool
+usedHit hit next s = ltb s next && hit s
+
+abbrev pub judged : Option ℕ → Option ℕ → Outcome
+judged (some s) used = Accepted (record { 0 = s })
+judged none (some s) = Used
+judged none none = Wrong
+
+-- the smallest fresh step that matches is accepted; else used, if one that is not fresh matches; otherwise wrong
+unfoldable pub checked : (ℕ → Bool) → ℕ → ℕ → Outcome
+checked hit next n = judged (smallest (freshHit hit next) n) (smallest (usedHit hit next) n)
+
+-- single check: a hit is a candidate that matches
+abbrev pub singleHit : (ℕ → Bool) → (ℕ → Bool) → ℕ → Bool
+singleHit candidate matches s = candidate s && matches s
+
+-- pair check: s and s + 1 are candidates, s has the first password and s + 1 the second
+abbrev pub pairHit : (ℕ → Bool) → (ℕ → Bool) → (ℕ → Bool) → ℕ → Bool
+pairHit candidate first second s = (candidate s && candidate (s + 1)) && (first s && second (s + 1))
+
+-- the accepted step of a pair is s + 1
+abbrev pub second : Outcome → Outcome
+second (Accepted s) = Accepted (record { 0 = s .0 + 1 })
+second Used = Used
+second Wrong = Wrong

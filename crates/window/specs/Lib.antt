@@ -1,0 +1,5 @@
+-- Steps and windows (document 01, Part 3): candidates, the single and the pair check, and what they mean.
+pub mod Window
+pub mod WindowLaws
+pub mod Check
+pub mod CheckLaws
