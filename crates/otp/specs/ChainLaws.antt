@@ -9,6 +9,7 @@ use borrow.Author.Tests.{ltb-true, ltb-false, ne-eqb, lt-ltb}
 use lib.Dec.{ltb, eqb}
 use lib.ListN.{length, take, drop, replicate, length-append, length-take, length-drop, length-replicate, replicate-append-replicate}
 use lib.Seq.{length-take-le, take-at, drop-append-le, take-append-le}
+use Rattle.words.specs.ListsLaws.{drop-zeros, by-test}
 use Rattle.words.specs.Bytes.{beAt, beBytes, putBe}
 use Rattle.words.specs.BytesLaws.{length-beBytes, beAt-split, beBytes-split, beBytes-mod}
 use Rattle.sm3.specs.Sm3.{sm3Of, sm3Answer}
@@ -30,13 +31,9 @@ chain keys s (suc i) = encryptWith keys (blockSum (chain keys s i) (blockAt s (s
 -- the carry out of the lower halves is seen in their sum
 carried : (a b : ℕ) → a < 2 ^ 64 → b < 2 ^ 64 → cond (ltb ((a + b) % 2 ^ 64) a) 1 0 ≡ (a + b) / 2 ^ 64
 carried a b p q =
-    split (ltb ((a + b) % 2 ^ 64) a)
+    by-test (ltb ((a + b) % 2 ^ 64) a)
     (λ t. let h = ltb-true ((a + b) % 2 ^ 64) a t in rw t (omega arith))
     (λ t. let h = ltb-false ((a + b) % 2 ^ 64) a t in rw t (omega arith))
-  where
-    split : {X : Type 0} (b : Bool) → (b ≡ true → X) → (b ≡ false → X) → X
-    split true p q = p refl
-    split false p q = q refl
 
 high-half : (ah al bh bl : ℕ) → (ah * 2 ^ 64 + al + (bh * 2 ^ 64 + bl)) / 2 ^ 64 % 2 ^ 64 ≡ (ah + bh + (al + bl) / 2 ^ 64) % 2 ^ 64
 high-half ah al bh bl = let e : (ah * 2 ^ 64 + al + (bh * 2 ^ 64 + bl)) / 2 ^ 64 ≡ ah + bh + (al + bl) / 2 ^ 64 = omega arith in rw e
@@ -116,11 +113,6 @@ chain-outputs key s (suc i) = rw (chain-outputs key s i)
 
 zeros-laid : (n : ℕ) (b : List ℕ) → length b ≤ n → put (replicate n 0) 0 b ≡ b ++ replicate (n - length b) 0
 zeros-laid n b h = rw (zero-add, drop-zeros (length b) n)
-  where
-    drop-zeros : (k n : ℕ) → drop k (replicate {A = ℕ} n 0) ≡ replicate (n - k) 0
-    drop-zeros zero n = let e : n - 0 ≡ n = omega arith in rw e
-    drop-zeros (suc k) zero = let e : 0 - suc k ≡ 0 = omega arith in rw e
-    drop-zeros (suc k) (suc n) = let e : suc n - suc k ≡ n - k = omega arith in rw e (drop-zeros k n)
 
 -- key and ID laid into zeros, up to the end of the filled ID
 pub hashed-bytes : (key id : List ℕ) (n : ℕ) {first all : List ℕ} → length key + max 16 (length id) ≤ n → first ≡ put (replicate n 0) 0 key

@@ -8,9 +8,9 @@ use borrow.Author.Tests.{ltb-true, ltb-false}
 use lib.Dec.{ltb}
 use lib.ListN.{length, take, drop, set, replicate, length-append, length-drop, length-replicate, take-append-drop}
 use lib.Seq.{length-take-le, take-at, take-add, take-all, take-append-seam, take-length, take-suc-set}
+use Rattle.words.specs.ListsLaws.{by-test}
 use Rattle.bytes.specs.Bytes.{indexOf, slice}
 use Rattle.otp.specs.IdLaws.{put-part}
-use Rattle.text.specs.TextLaws.{by-test}
 use Rattle.password_lines.specs.Line.{lineAnswer, refusal, printedOf}
 use Rattle.password_lines.specs.declared.Printed.{Printed}
 use Rattle.password_lines.specs.LineLaws.{long-line, answer-length}

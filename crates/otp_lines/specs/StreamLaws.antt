@@ -6,9 +6,9 @@ use mathlib.Core.List.{List, [], _∷_, _++_, map, flatten, append-assoc, append
 use native.Mathlib.Omega.{arith}
 use lib.Dec.{eqb}
 use lib.ListN.{length, take}
+use Rattle.words.specs.ListsLaws.{by-test}
 use Rattle.bytes.specs.Bytes.{indexOf, indexAfter}
 use Rattle.text.specs.Text.{longer, fieldsOf}
-use Rattle.text.specs.TextLaws.{by-test}
 use Rattle.password_lines.specs.Line.{lineAnswer, refusal}
 use Rattle.otp_lines.specs.Stream.{lineFeed, linesOf, answered, outputOf, Progress, behind, fed, finished, fedAll, Held, Follows}
 

@@ -1,7 +1,7 @@
 -- Laws of a line's answer.
-use Prim.Native.Nat.{ℕ, zero, suc, _+_, _-_, _^_, _≤_, _<_, zero-le}
+use Prim.Native.Nat.{ℕ, _+_, _-_, _^_, _≤_, _<_, zero-le}
 use mathlib.Core.Path.{_≡_, refl, sym, ap, _∙_}
-use mathlib.Core.Bool.{Bool, true, false, cond, _&&_, _||_}
+use mathlib.Core.Bool.{true, false, cond, _&&_, _||_}
 use mathlib.Core.List.{List, [], _∷_, _++_}
 use mathlib.Core.Option.{Option, none, some}
 use native.Mathlib.Nat.{add-zero, lt-of-lt-of-le}
@@ -9,6 +9,7 @@ use native.Mathlib.Omega.{arith}
 use borrow.Author.Tests.{lt-ltb, le-ltb, ltb-true, ltb-false, lt-leb, leb-false, ne-eqb, eqb-true, eqb-false}
 use lib.Dec.{eqb, leb, ltb, lit<, lit≤}
 use lib.ListN.{length, getD, take, drop, replicate}
+use Rattle.words.specs.ListsLaws.{by-test, and-false, drop-zeros}
 use Rattle.otp.specs.declared.Factor.{Factor}
 use Rattle.otp.specs.declared.Factor.the-variants.{Absent, Present}
 use Rattle.otp.specs.Password.{argumentsOk, passwordOf, passwordAnswer}
@@ -17,7 +18,7 @@ use Rattle.words.specs.Codes.{done, badArgument}
 use Rattle.text.specs.declared.numbers.Number.{Number}
 use Rattle.text.specs.declared.hexadecimal.Decoded.{Decoded}
 use Rattle.text.specs.Text.{stored, decodedOf, decimalOf, bounded, numberOf, hexOf, fieldsOf, sumLengths}
-use Rattle.text.specs.TextLaws.{by-test, number-value, hex-decoded, decimal-length, hex-length, length-fields, SixFields}
+use Rattle.text.specs.TextLaws.{number-value, hex-decoded, decimal-length, hex-length, length-fields, SixFields}
 use Rattle.password_lines.specs.declared.Printed.{Printed}
 use Rattle.password_lines.specs.declared.fields.FactorRead.{FactorRead}
 use Rattle.password_lines.specs.declared.fields.FactorRead.the-variants.{Is, Bad}
@@ -93,15 +94,6 @@ pub small-above : (s : List ℕ) {x : ℕ} → numberOf s ≡ Number.Value x →
 small-above s {x} e l = rw (number-value s e .0, le-ltb x 256 l)
 
 -- ---- the password
-
-and-false : (b : Bool) → b && false ≡ false
-and-false true = refl
-and-false false = refl
-
-drop-zeros : (k n : ℕ) → drop k (replicate {A = ℕ} n 0) ≡ replicate (n - k) 0
-drop-zeros zero n = let e : n - 0 ≡ n = omega arith in rw e
-drop-zeros (suc k) zero = let e : 0 - suc k ≡ 0 = omega arith in rw e
-drop-zeros (suc k) (suc n) = let e : suc n - suc k ≡ n - k = omega arith in rw e (drop-zeros k n)
 
 module _ (algorithm : ℕ) (key : List ℕ) (time count : Factor) (challenge : List ℕ) (n : ℕ) where
   text-given : argumentsOk algorithm key time count challenge n ≡ true

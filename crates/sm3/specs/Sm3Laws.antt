@@ -10,6 +10,7 @@ use borrow.Author.Tests.{lt-ltb, le-ltb, ltb-true, ltb-false, eqb-true}
 use lib.Dec.{ltb, eqb}
 use lib.ListN.{length, getD, set, take, drop, replicate, length-set, length-append, length-drop, length-replicate, replicate-append-replicate, List·getD-append}
 use lib.Seq.{getD-take, getD-drop, getD-set-other, take-all, take-length, take-suc-set, set-at, set-out, drop-append-le}
+use Rattle.words.specs.ListsLaws.{drop-zeros, by-test}
 use Rattle.words.specs.Bytes.{beAt, beBytes, putBe}
 use Rattle.words.specs.BytesLaws.{beAt-agree, length-beBytes, putBe-seam}
 use Rattle.words.specs.Codes.{done, badArgument}
@@ -228,13 +229,9 @@ last-blocks-two l h = rw (le-ltb (l % 64) 56 h)
 pub last-blocks-fill : (l : ℕ) → l % 64 + 9 + zerosAfter l ≡ 64 * lastBlocks l
 unfolding lastBlocks zerosAfter
 last-blocks-fill l =
-    split (ltb (l % 64) 56)
+    by-test (ltb (l % 64) 56)
     (λ t. let h : l % 64 < 56 = ltb-true (l % 64) 56 t in rw t (omega arith))
     (λ t. let h : 56 ≤ l % 64 = ltb-false (l % 64) 56 t in rw t (omega arith))
-  where
-    split : {X : Type 0} (b : Bool) → (b ≡ true → X) → (b ≡ false → X) → X
-    split true p q = p refl
-    split false p q = q refl
 
 pub last-blocks-fit : (l : ℕ) → 64 * lastBlocks l ≤ 128
 unfolding lastBlocks
@@ -265,11 +262,6 @@ padded-rest : (m : List ℕ) → drop (64 * (length m / 64)) (padded m)
 unfolding padded
 padded-rest m = drop-append-le (64 * (length m / 64)) m (0x80 ∷ (replicate (zerosAfter (length m)) 0 ++ beBytes 8 (8 * length m))) (omega arith)
 
-drop-replicate : (k n : ℕ) → drop k (replicate {A = ℕ} n 0) ≡ replicate (n - k) 0
-drop-replicate zero n = let e : n - 0 ≡ n = omega arith in rw e
-drop-replicate (suc k) zero = let e : 0 - suc k ≡ 0 = omega arith in rw e
-drop-replicate (suc k) (suc n) = let e : suc n - suc k ≡ n - k = omega arith in rw e (drop-replicate k n)
-
 -- what the code does with its buffer: the rest of the message copied over zeros, the byte 80, the length
 pub end-of : (m : List ℕ) (blocks : ℕ) {copied end : List ℕ} → blocks ≡ lastBlocks (length m)
     → (let rest = take (length m - length m / 64 * 64) (drop (length m / 64 * 64) m) in
@@ -286,7 +278,7 @@ end-of m blocks {copied} {end} b p q =
     let fill : length m % 64 + 9 + zerosAfter (length m) ≡ 64 * blocks = rw b (last-blocks-fill (length m)) in
     let room : 64 * blocks ≤ 128 = rw b (last-blocks-fit (length m)) in
     let copy : copied ≡ drop (64 * (length m / 64)) m ++ replicate (128 - length m % 64) 0 =
-    rw (p, rest, take-length (drop (64 * (length m / 64)) m), l, drop-replicate (length m % 64) 128) in
+    rw (p, rest, take-length (drop (64 * (length m / 64)) m), l, drop-zeros (length m % 64) 128) in
     rw (q, copy, w, r, padded-rest m)
     (end-filled (drop (64 * (length m / 64)) m) (length m % 64) (zerosAfter (length m)) (64 * blocks) (8 * length m) l fill room)
 

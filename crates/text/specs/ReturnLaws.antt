@@ -12,11 +12,11 @@ use lib.Dec.{eqb, ltb, eqb·suc-suc, eqb·zero-suc}
 use lib.ListN.{length, getD, set, take, drop, replicate, length-set, length-drop, drop-of-length-le}
 use lib.Seq.{length-take-le, drop-cons, take-suc-set, take-all, append-snoc, take-length, paste-suc}
 use Rattle.bytes.specs.Bytes.{indexOf, slice}
-use Rattle.words.specs.ListsLaws.{and-true, and-assoc}
+use Rattle.words.specs.ListsLaws.{and-true, and-assoc, by-test}
 use Rattle.words.specs.Tables.{and-left, and-right}
 use Rattle.text.specs.Text.{digitValue, digitsFrom, decimalOf, bounded, numberOf, stored, decodedOf, comma, fieldsOf, fieldEnd, fieldAt, endsFrom, splitOf}
 use Rattle.text.specs.Steps.{allHex, pairsOf, startAfter, endsAfter}
-use Rattle.text.specs.TextLaws.{by-test, digits-grow, hex-is, length-pairs, end-le, fields-positive, fields-from}
+use Rattle.text.specs.TextLaws.{digits-grow, hex-is, length-pairs, end-le, fields-positive, fields-from}
 use Rattle.text.specs.declared.numbers.Number.{Number}
 use Rattle.text.specs.declared.hexadecimal.Decoded.{Decoded}
 use Rattle.text.specs.declared.fields.Field.{Field}

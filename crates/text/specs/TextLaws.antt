@@ -11,6 +11,7 @@ use borrow.Author.Tests.{lt-ltb, le-ltb, leb-true, ltb-true, ltb-false, eqb-true
 use lib.Dec.{eqb, leb, ltb, leb·suc-suc}
 use lib.ListN.{length, getD, take, drop, length-append, length-drop}
 use lib.Seq.{take-append-seam, drop-append-seam, drop-drop}
+use Rattle.words.specs.ListsLaws.{by-test}
 use Rattle.bytes.specs.Bytes.{indexOf, indexAfter}
 use Rattle.words.specs.BytesLaws.{AreBytes}
 use Rattle.words.specs.Tables.{and-left, and-right}
@@ -19,11 +20,6 @@ use Rattle.text.specs.Steps.{allHex, pairsOf}
 use Rattle.text.specs.declared.numbers.Number.{Number}
 use Rattle.text.specs.declared.hexadecimal.Decoded.{Decoded}
 use Rattle.text.specs.declared.fields.Split.{Split}
-
--- a test is passed or failed
-pub by-test : {A : Type 0} (b : Bool) → (b ≡ true → A) → (b ≡ false → A) → A
-by-test true p f = p refl
-by-test false p f = f refl
 
 none-some : {A B : Type 0} {a : A} → _≡_ {A = Option A} none (some a) → B
 none-some e = let z : _≡_ {A = ℕ} 0 1 = cc in absurd (omega arith)

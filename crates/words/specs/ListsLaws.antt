@@ -1,5 +1,5 @@
 -- Laws of the tests on lists, in the form in which a loop over the elements needs them.
-use Prim.Native.Nat.{ℕ, zero, suc, _+_, _<_, _≤_}
+use Prim.Native.Nat.{ℕ, zero, suc, _+_, _-_, _<_, _≤_}
 use mathlib.Core.Path.{_≡_, refl, ap, ap₂}
 use mathlib.Core.Bool.{Bool, true, false, _&&_}
 use mathlib.Core.List.{List, [], _∷_}
@@ -7,7 +7,7 @@ use native.Mathlib.Numerals.{add-one}
 use native.Mathlib.Omega.{arith}
 use borrow.Author.Tests.{eqb-true, eq-eqb}
 use lib.Dec.{eqb}
-use lib.ListN.{length, getD, drop, drop-of-length-le}
+use lib.ListN.{length, getD, drop, replicate, drop-of-length-le}
 use lib.Seq.{drop-cons}
 use Rattle.words.specs.Lists.{sameBytes, allZero}
 use Rattle.words.specs.Tables.{and-left, and-right}
@@ -15,6 +15,10 @@ use Rattle.words.specs.Tables.{and-left, and-right}
 pub and-true : (b : Bool) → b && true ≡ b
 and-true true = refl
 and-true false = refl
+
+pub and-false : (b : Bool) → b && false ≡ false
+and-false true = refl
+and-false false = refl
 
 pub and-assoc : (a b c : Bool) → (a && b) && c ≡ a && (b && c)
 and-assoc true b c = refl
@@ -42,10 +46,6 @@ same-lengths [] [] n = absurd (n refl)
 same-lengths [] (y ∷ b) n = refl
 same-lengths (x ∷ a) [] n = refl
 same-lengths (x ∷ a) (y ∷ b) n = rw (same-lengths a b (λ e. n (ap suc e))) (and-false (eqb x y))
-  where
-    and-false : (b : Bool) → b && false ≡ false
-    and-false true = refl
-    and-false false = refl
 
 -- one more pair of elements is compared
 pub same-more : (a b : List ℕ) (i : ℕ) (alike : Bool) → length a ≡ length b → i < length a
@@ -69,3 +69,14 @@ zero-more s i clear l = rw (add-one, and-assoc, drop-cons s i 0)
 pub zero-end : (s : List ℕ) (i : ℕ) (clear : Bool) → length s ≤ i → clear && allZero (drop i s) ≡ clear
 unfolding allZero
 zero-end s i clear l = rw (drop-of-length-le s l) (and-true clear)
+
+-- zeros after some of them
+pub drop-zeros : (k n : ℕ) → drop k (replicate {A = ℕ} n 0) ≡ replicate (n - k) 0
+drop-zeros zero n = let e : n - 0 ≡ n = omega arith in rw e
+drop-zeros (suc k) zero = let e : 0 - suc k ≡ 0 = omega arith in rw e
+drop-zeros (suc k) (suc n) = let e : suc n - suc k ≡ n - k = omega arith in rw e (drop-zeros k n)
+
+-- a test comes out one way or the other
+pub by-test : {A : Type 0} (b : Bool) → (b ≡ true → A) → (b ≡ false → A) → A
+by-test true p q = p refl
+by-test false p q = q refl
