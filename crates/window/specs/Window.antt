@@ -1,5 +1,6 @@
 -- Steps and windows, in the order of document 01, Part 3.
-use Prim.Native.Nat.{ℕ, _+_, _-_, _/_, _^_}
+use Prim.Native.Nat.{ℕ, _+_, _-_, _*_, _/_, _^_, _≤_, _<_}
+use mathlib.Core.Path.{_≡_}
 use mathlib.Core.Bool.{Bool, cond, _&&_}
 use lib.Dec.{eqb, leb, ltb}
 use Rattle.window.specs.declared.Size.{Size}
@@ -51,3 +52,10 @@ candidate k clock size s =
 -- every candidate lies below this step
 unfoldable pub beyond : Track → ℕ → ℕ
 beyond k clock = cond (eqb (k .kind) timeToken) (stepAt clock (k .period) + farthest + 1) (2 ^ 32)
+
+-- what a well-formed row and a clock below 2^40 give; 2^40 + 600 is the step after the last that such a clock lets in
+pub record Sound (k : Track) (clock : ℕ) : Type 0 where
+  pub divided : k .kind ≡ timeToken → 0 < k .period
+  pub timely : clock < 2 ^ 40
+  pub counted : k .next ≤ 2 ^ 40 + farthest
+  pub within : k .offset ≤ 2 * farthest

@@ -1,4 +1,9 @@
 // Steps and windows (document 01, Part 3).
+mod range;
+
+pub use range::Range;
+pub use range::candidates;
+pub use range::step_at;
 
 // A clock reading, in seconds.
 pub struct Seconds(pub u64);
