@@ -3,3 +3,5 @@ pub mod Window
 pub mod WindowLaws
 pub mod Check
 pub mod CheckLaws
+pub mod PasswordAt
+pub mod PasswordAtLaws

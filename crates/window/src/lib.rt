@@ -1,9 +1,14 @@
 // Steps and windows (document 01, Part 3).
+mod matching;
 mod range;
 
+pub use matching::Rule;
 pub use range::Range;
 pub use range::candidates;
 pub use range::step_at;
+
+// The kind of a time token; an event token's is 1.
+pub(crate) const TIME_TOKEN: u8 = 0;
 
 // A clock reading, in seconds.
 pub struct Seconds(pub u64);

@@ -2,6 +2,7 @@
 use crate::Seconds;
 use crate::Size;
 use crate::Step;
+use crate::TIME_TOKEN;
 use crate::Track;
 ghost use mathlib.Core.Path.{_≡_};
 ghost use Prim.Native.Nat.{_-_, _^_, _≤_, _<_, min, max};
@@ -10,7 +11,6 @@ ghost use Rattle.window.specs.WindowLaws.{timeFirst, timeEnd, eventFirst
 
 const FARTHEST: u64 = 600;
 
-const TIME_TOKEN: u8 = 0;
 
 const COUNTS: u64 = 0x1_0000_0000;
 

@@ -1,0 +1,12 @@
+use borrow.Author.Tests.{eq-eqb, ne-eqb}
+use Rattle.window.proofs.matching.time_of.Statement.{statement}
+use Rattle.window.proofs.matching.time_of.Tie as tie
+
+returns : tie.Need-returns
+returns c = rw (eq-eqb (c .before .args .kind) 0 (c .if1 .taken))
+
+returns-2 : tie.Need-returns-2
+returns-2 c = rw (ne-eqb (c .before .args .kind) 0 (c .if1 .left))
+
+pub time-of-spec : {M : Type 1} → statement M
+time-of-spec = tie.close (tie.spec returns returns-2)

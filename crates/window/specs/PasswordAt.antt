@@ -1,0 +1,25 @@
+-- The password of a step (document 01, Part 3), over the password rule.
+use Prim.Native.Nat.{ℕ}
+use mathlib.Core.Bool.{Bool, cond}
+use mathlib.Core.List.{List}
+use lib.Dec.{eqb}
+use Rattle.words.specs.Lists.{sameBytes}
+use Rattle.otp.specs.declared.Factor.{Factor}
+use Rattle.otp.specs.declared.Factor.the-variants.{Absent, Present}
+use Rattle.otp.specs.Password.{passwordOf}
+use Rattle.window.specs.declared.matching.Rule.{Rule}
+use Rattle.window.specs.Window.{timeToken}
+
+-- step s has T = s for a time token, C = s for an event token
+abbrev pub timeOf : ℕ → ℕ → Factor
+timeOf kind s = cond (eqb kind timeToken) (Present s) Absent
+
+abbrev pub countOf : ℕ → ℕ → Factor
+countOf kind s = cond (eqb kind timeToken) Absent (Present s)
+
+unfoldable pub passwordAt : Rule → List ℕ → List ℕ → ℕ → List ℕ
+passwordAt rule key challenge s = passwordOf (rule .algorithm) key (timeOf (rule .kind) s) (countOf (rule .kind) s) challenge (rule .digits)
+
+-- step s has this password; one of another length it has not
+unfoldable pub hasPassword : Rule → List ℕ → List ℕ → List ℕ → ℕ → Bool
+hasPassword rule key challenge presented s = sameBytes presented (passwordAt rule key challenge s)
