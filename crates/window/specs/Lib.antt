@@ -5,3 +5,4 @@ pub mod Check
 pub mod CheckLaws
 pub mod PasswordAt
 pub mod PasswordAtLaws
+pub mod SearchLaws

@@ -24,6 +24,9 @@ inRange rule key challenge = argumentsOk (rule .algorithm) key (Present 0) Absen
 abbrev pub StepOk : ℕ → ℕ → Type 0
 StepOk kind s = eqb kind timeToken ≡ false → s < 2 ^ 32
 
+abbrev pub EndOk : ℕ → ℕ → Type 0
+EndOk kind end = eqb kind timeToken ≡ false → end ≤ 2 ^ 32
+
 pub arguments-at : (rule : Rule) (key challenge : List ℕ) (s : ℕ) → inRange rule key challenge ≡ true → StepOk (rule .kind) s
     → argumentsOk (rule .algorithm) key (timeOf (rule .kind) s) (countOf (rule .kind) s) challenge (rule .digits) ≡ true
 unfolding argumentsOk

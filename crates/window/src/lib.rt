@@ -1,11 +1,13 @@
 // Steps and windows (document 01, Part 3).
 mod matching;
 mod range;
+mod search;
 
 pub use matching::Rule;
 pub use range::Range;
 pub use range::candidates;
 pub use range::step_at;
+pub use search::Found;
 
 // The kind of a time token; an event token's is 1.
 pub(crate) const TIME_TOKEN: u8 = 0;
