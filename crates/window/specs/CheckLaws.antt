@@ -49,7 +49,7 @@ smallest-found test (suc n) = next (smallest test n) (smallest-found test n) (te
 clash : {X : Type 0} {b : Bool} → b ≡ true → b ≡ false → X
 clash t f = let z : true ≡ false = sym t ∙ f in let y : _≡_ {A = ℕ} 0 1 = cc in absurd (omega arith)
 
-order : (r s : ℕ) → (r < s) ⊎ (s ≤ r)
+pub order : (r s : ℕ) → (r < s) ⊎ (s ≤ r)
 order r zero = inr zero-le
 order zero (suc s) = inl (omega arith)
 order (suc r) (suc s) = ⊎-elim (λ (l : r < s). inl (omega arith)) (λ (l : s ≤ r). inr (omega arith)) (order r s)

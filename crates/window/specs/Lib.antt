@@ -5,4 +5,6 @@ pub mod Check
 pub mod CheckLaws
 pub mod PasswordAt
 pub mod PasswordAtLaws
+pub mod Single
 pub mod SearchLaws
+pub mod SingleLaws

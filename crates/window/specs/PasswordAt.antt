@@ -7,7 +7,7 @@ use Rattle.words.specs.Lists.{sameBytes}
 use Rattle.otp.specs.declared.Factor.{Factor}
 use Rattle.otp.specs.declared.Factor.the-variants.{Absent, Present}
 use Rattle.otp.specs.Password.{passwordOf}
-use Rattle.window.specs.declared.matching.Rule.{Rule}
+use Rattle.window.specs.declared.Rule.{Rule}
 use Rattle.window.specs.Window.{timeToken}
 
 -- step s has T = s for a time token, C = s for an event token

@@ -12,7 +12,7 @@ use Rattle.otp.specs.declared.Factor.{Factor}
 use Rattle.otp.specs.declared.Factor.the-variants.{Absent, Present}
 use Rattle.otp.specs.Password.{passwordOf, argumentsOk}
 use Rattle.otp.specs.PasswordLaws.{length-password, digits-high}
-use Rattle.window.specs.declared.matching.Rule.{Rule}
+use Rattle.window.specs.declared.Rule.{Rule}
 use Rattle.window.specs.Window.{timeToken}
 use Rattle.window.specs.PasswordAt.{timeOf, countOf, passwordAt, hasPassword}
 

@@ -1,12 +1,20 @@
 -- The search over a range, and what it has to do with the check's definition.
-use Prim.Native.Nat.{ℕ, zero, suc, _+_, _-_, _≤_, _<_}
+use Prim.Native.Nat.{ℕ, zero, suc, _+_, _-_, _≤_, _<_, min, max}
 use mathlib.Core.Path.{_≡_, refl, sym, ap, _∙_}
-use mathlib.Core.Bool.{Bool, true, false, cond}
+use mathlib.Core.Bool.{Bool, true, false, cond, _&&_}
+use mathlib.Core.Logic.{⊎-elim}
 use mathlib.Core.Option.{Option, none, some}
+use native.Mathlib.Nat.{le-trans, max-le, le-min, le-max-left, le-max-right, min-le-left, min-le-right, le-refl}
 use native.Mathlib.Omega.{arith}
+use borrow.Author.Tests.{leb-true, ltb-true, le-leb, lt-leb, lt-ltb, le-ltb}
+use lib.Dec.{leb, ltb}
+use Rattle.words.specs.Tables.{and-left, and-right}
+use Rattle.words.specs.ListsLaws.{and-false}
 use Rattle.window.specs.declared.search.Found.{Found}
 use Rattle.window.specs.declared.search.Found.the-variants.{At, Nowhere}
-use Rattle.window.specs.CheckLaws.{sweep}
+use Rattle.window.specs.WindowLaws.{agree, and-both}
+use Rattle.window.specs.Check.{smallest, freshHit, usedHit, judged, checked, singleHit}
+use Rattle.window.specs.CheckLaws.{NoneBelow, order, sweep, smallest-is-sweep}
 
 abbrev pub foundOf : Option ℕ → Found
 foundOf none = Nowhere
@@ -29,3 +37,76 @@ module _ (test : ℕ → Bool) (at end : ℕ) where
   pub sweep-miss : at < end → test at ≡ false → sweep test at (end - at) ≡ sweep test (at + 1) (end - (at + 1))
   unfolding sweep
   sweep-miss h t = rw (less-suc end at h, t)
+
+-- ---- the range: a test that is another within a range, and fails outside it, is searched by the other there
+
+sweep-same : (test other : ℕ → Bool) (from k : ℕ) → ((r : ℕ) → from ≤ r → r < from + k → test r ≡ other r) → sweep test from k ≡ sweep other from k
+unfolding sweep
+sweep-same test other from zero h = refl
+sweep-same test other from (suc k) h =
+    let e = h from (le-refl from) (omega arith) in
+    let i = sweep-same test other (from + 1) k (λ r l m. h r (omega arith) (omega arith)) in
+    rw (e, i)
+
+module _ (test other : ℕ → Bool) (n from end : ℕ) (room : end ≤ n)
+    (within : (r : ℕ) → test r ≡ (leb from r && ltb r end) && other r) where
+  below-none : NoneBelow test from
+  below-none r l = rw (within r, lt-leb from r l)
+
+  above-none : (r : ℕ) → end ≤ r → test r ≡ false
+  above-none r l = rw (within r, le-ltb r end l, and-false (leb from r))
+
+  inside-same : (r : ℕ) → from ≤ r → r < end → test r ≡ other r
+  inside-same r l m = rw (within r, le-leb from r l, lt-ltb r end m)
+
+  pub smallest-in-range : smallest test n ≡ sweep other from (end - from)
+  unfolding sweep
+  smallest-in-range =
+      ⊎-elim
+      (λ (l : end < from).
+      let z : end - from ≡ 0 = omega arith in
+      smallest-is-sweep test n end 0 (omega arith) (λ r m. below-none r (omega arith)) (λ r m. above-none r (omega arith)) ∙ rw z)
+      (λ (l : from ≤ end).
+      smallest-is-sweep test n from (end - from) (omega arith) below-none (λ r m. above-none r (omega arith))
+      ∙ sweep-same test other from (end - from) (λ r m k. inside-same r m (omega arith)))
+      (order end from)
+
+-- ---- the single check: fresh steps are searched, then used ones
+
+leb-max : (a b r : ℕ) → leb (max a b) r ≡ leb b r && leb a r
+leb-max a b r =
+    agree (leb (max a b) r) (leb b r && leb a r)
+    (λ h. let m = leb-true (max a b) r h in and-both (le-leb b r (le-trans (le-max-right a b) m)) (le-leb a r (le-trans (le-max-left a b) m)))
+    (λ h. le-leb (max a b) r (max-le (leb-true a r (and-right (leb b r) (leb a r) h)) (leb-true b r (and-left (leb b r) (leb a r) h))))
+
+ltb-min : (a b r : ℕ) → ltb r (min a b) ≡ ltb r b && ltb r a
+ltb-min a b r =
+    agree (ltb r (min a b)) (ltb r b && ltb r a)
+    (λ h. let m = ltb-true r (min a b) h in and-both (lt-ltb r b (le-trans m (min-le-right a b))) (lt-ltb r a (le-trans m (min-le-left a b))))
+    (λ h. lt-ltb r (min a b) (le-min (ltb-true r a (and-right (ltb r b) (ltb r a) h)) (ltb-true r b (and-left (ltb r b) (ltb r a) h))))
+
+fresh-tests : (n f e m : Bool) → n && ((f && e) && m) ≡ ((n && f) && e) && m
+fresh-tests true f e m = refl
+fresh-tests false f e m = refl
+
+used-tests : (n f e m : Bool) → n && ((f && e) && m) ≡ (f && (n && e)) && m
+used-tests true f e m = refl
+used-tests false true e m = refl
+used-tests false false e m = refl
+
+module _ (candidate matches : ℕ → Bool) (first end next n : ℕ) (room : end ≤ n)
+    (is-range : (s : ℕ) → candidate s ≡ leb first s && ltb s end) where
+  fresh-searched : smallest (freshHit (singleHit candidate matches) next) n ≡ sweep matches (max first next) (end - max first next)
+  fresh-searched =
+      smallest-in-range (freshHit (singleHit candidate matches) next) matches n (max first next) end room
+      (λ r. rw (is-range r, leb-max first next r) (fresh-tests (leb next r) (leb first r) (ltb r end) (matches r)))
+
+  used-searched : smallest (usedHit (singleHit candidate matches) next) n ≡ sweep matches first (min end next - first)
+  used-searched =
+      smallest-in-range (usedHit (singleHit candidate matches) next) matches n first (min end next) (le-trans (min-le-left end next) room)
+      (λ r. rw (is-range r, ltb-min end next r) (used-tests (ltb r next) (leb first r) (ltb r end) (matches r)))
+
+  pub single-searched : checked (singleHit candidate matches) next n
+      ≡ judged (sweep matches (max first next) (end - max first next)) (sweep matches first (min end next - first))
+  unfolding checked
+  single-searched = rw (fresh-searched, used-searched)

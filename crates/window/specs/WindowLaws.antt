@@ -26,19 +26,19 @@ eventEnd next w = min (next + w) (2 ^ 32)
 
 unfoldable pub firstStep : Track → ℕ → Size → ℕ
 firstStep k clock size =
-    cond (eqb (k .kind) timeToken) (timeFirst (stepAt clock (k .period)) (k .offset) (timeWidth size)) (eventFirst (k .next))
+    cond (eqb (k .rule .kind) timeToken) (timeFirst (stepAt clock (k .period)) (k .offset) (timeWidth size)) (eventFirst (k .next))
 
 unfoldable pub endStep : Track → ℕ → Size → ℕ
 endStep k clock size =
-    cond (eqb (k .kind) timeToken) (timeEnd (stepAt clock (k .period)) (k .offset) (timeWidth size)) (eventEnd (k .next) (eventWidth size))
+    cond (eqb (k .rule .kind) timeToken) (timeEnd (stepAt clock (k .period)) (k .offset) (timeWidth size)) (eventEnd (k .next) (eventWidth size))
 
 -- two tests agree where each follows from the other
-agree : (a b : Bool) → (a ≡ true → b ≡ true) → (b ≡ true → a ≡ true) → a ≡ b
+pub agree : (a b : Bool) → (a ≡ true → b ≡ true) → (b ≡ true → a ≡ true) → a ≡ b
 agree true b p q = sym (p refl)
 agree false true p q = q refl
 agree false false p q = refl
 
-and-both : {a b : Bool} → a ≡ true → b ≡ true → a && b ≡ true
+pub and-both : {a b : Bool} → a ≡ true → b ≡ true → a && b ≡ true
 and-both p q = rw (p, q)
 
 -- numbers that lie at most w apart
@@ -105,7 +105,7 @@ event-range next w s =
 -- the law: for both kinds, every offset, every clock and every next
 pub candidates-are-range : (k : Track) (clock : ℕ) (size : Size) (s : ℕ) → candidate k clock size s ≡ leb (firstStep k clock size) s && ltb s (endStep k clock size)
 unfolding candidate firstStep endStep
-candidates-are-range k clock size s = pick (eqb (k .kind) timeToken)
+candidates-are-range k clock size s = pick (eqb (k .rule .kind) timeToken)
   where
     pick : (b : Bool)
         → cond b (timeCandidate (stepAt clock (k .period)) (k .offset) (timeWidth size) s) (eventCandidate (k .next) (eventWidth size) s)
@@ -117,7 +117,7 @@ candidates-are-range k clock size s = pick (eqb (k .kind) timeToken)
 -- no candidate lies at or above `beyond`
 pub end-below : (k : Track) (clock : ℕ) (size : Size) → endStep k clock size ≤ beyond k clock
 unfolding endStep beyond
-end-below k clock size = pick (eqb (k .kind) timeToken)
+end-below k clock size = pick (eqb (k .rule .kind) timeToken)
   where
     pick : (b : Bool)
         → cond b (timeEnd (stepAt clock (k .period)) (k .offset) (timeWidth size)) (eventEnd (k .next) (eventWidth size))

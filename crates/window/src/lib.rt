@@ -2,12 +2,13 @@
 mod matching;
 mod range;
 mod search;
+mod single;
 
-pub use matching::Rule;
 pub use range::Range;
 pub use range::candidates;
 pub use range::step_at;
 pub use search::Found;
+pub use single::check_single;
 
 // The kind of a time token; an event token's is 1.
 pub(crate) const TIME_TOKEN: u8 = 0;
@@ -25,9 +26,16 @@ pub enum Size {
     Large,
 }
 
-// What a window needs of a token: its kind (0 time, 1 event), the period in seconds, the first unused step, and d + 600.
-pub struct Track {
+// How a token's passwords are made: its kind (0 time, 1 event), its algorithm (3 SM3, 4 SM4) and its count of digits.
+pub struct Rule {
     pub kind: u8,
+    pub algorithm: u8,
+    pub digits: u8,
+}
+
+// What a check needs of a token: the rule of its passwords, the period in seconds, the first unused step, and d + 600.
+pub struct Track {
+    pub rule: Rule,
     pub period: u8,
     pub next: u64,
     pub offset: u16,

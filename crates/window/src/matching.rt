@@ -1,4 +1,5 @@
 // Whether a step has the presented password.
+use crate::Rule;
 use crate::TIME_TOKEN;
 use otp::Factor;
 use otp::prepared::password_with;
@@ -9,23 +10,24 @@ ghost use Rattle.otp.specs.ChainLaws.{prepared};
 ghost use Rattle.window.specs.PasswordAt.{timeOf, countOf, hasPassword};
 ghost use Rattle.window.specs.PasswordAtLaws.{inRange, StepOk};
 
-// How a token's passwords are made: its kind, algorithm and count of digits.
-pub struct Rule {
-    pub kind: u8,
-    pub algorithm: u8,
-    pub digits: u8,
-}
-
 fn time_of(kind: u8, s: u64) -> Factor
     ensures { λ r. ⌜ r ≡ timeOf kind s ⌝ }
 {
-    if kind == TIME_TOKEN { Factor::Present(s) } else { Factor::Absent }
+    if kind == TIME_TOKEN {
+        Factor::Present(s)
+    } else {
+        Factor::Absent
+    }
 }
 
 fn count_of(kind: u8, s: u64) -> Factor
     ensures { λ r. ⌜ r ≡ countOf kind s ⌝ }
 {
-    if kind == TIME_TOKEN { Factor::Absent } else { Factor::Present(s) }
+    if kind == TIME_TOKEN {
+        Factor::Absent
+    } else {
+        Factor::Present(s)
+    }
 }
 
 // The passwords are compared to their end, whatever their first digits.
@@ -46,6 +48,15 @@ pub(crate) fn has_password(
     let n = rule.digits as usize;
     let time = time_of(rule.kind, s);
     let count = count_of(rule.kind, s);
-    password_with(rule.algorithm, key, keys, time, count, challenge, n, &mut out);
+    password_with(
+        rule.algorithm,
+        key,
+        keys,
+        time,
+        count,
+        challenge,
+        n,
+        &mut out,
+    );
     same(presented, &out[0..n])
 }

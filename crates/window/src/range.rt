@@ -11,7 +11,6 @@ ghost use Rattle.window.specs.WindowLaws.{timeFirst, timeEnd, eventFirst
 
 const FARTHEST: u64 = 600;
 
-
 const COUNTS: u64 = 0x1_0000_0000;
 
 // The steps from first up to, not including, end.
@@ -57,13 +56,13 @@ fn less(a: u64, b: u64) -> u64
     if b <= a { a - b } else { 0 }
 }
 
-fn larger(a: u64, b: u64) -> u64
+pub(crate) fn larger(a: u64, b: u64) -> u64
     ensures { λ r. ⌜ r ≡ max a b ⌝ }
 {
     if a <= b { b } else { a }
 }
 
-fn smaller(a: u64, b: u64) -> u64
+pub(crate) fn smaller(a: u64, b: u64) -> u64
     ensures { λ r. ⌜ r ≡ min a b ⌝ }
 {
     if a <= b { a } else { b }
@@ -105,7 +104,7 @@ pub fn candidates(track: Track, clock: Seconds, size: Size) -> Range
     ensures { λ r. ⌜ r .first .0 ≡ firstStep track (clock .0) size ⌝ }
     ensures { λ r. ⌜ r .end .0 ≡ endStep track (clock .0) size ⌝ }
 {
-    if track.kind == TIME_TOKEN {
+    if track.rule.kind == TIME_TOKEN {
         let t = step_at(clock, track.period);
         return time_range(t, track.offset as u64, time_width(size));
     }

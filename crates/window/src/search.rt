@@ -1,6 +1,6 @@
 // The search for a step that has the presented password.
+use crate::Rule;
 use crate::Step;
-use crate::matching::Rule;
 use crate::matching::has_password;
 ghost use mathlib.Core.Path.{_≡_};
 ghost use mathlib.Core.Bool.{true};

@@ -21,7 +21,7 @@ time-range-requires c κs =
 
 returns : tie.Need-returns
 unfolding firstStep endStep
-returns c = rw (eq-eqb (c .before .before .before .before .before .before .args .track .kind) 0 (c .before .before .before .before .if1 .taken), ← c .before .before .before .step-at .ensures, ← c .before .time-width .ensures .0) (c .time-range .ensures)
+returns c = rw (eq-eqb (c .before .before .before .before .before .before .args .track .rule .kind) 0 (c .before .before .before .before .if1 .taken), ← c .before .before .before .step-at .ensures, ← c .before .time-width .ensures .0) (c .time-range .ensures)
 
 event-width-requires : tie.Need-event-width-requires
 event-width-requires c κs = search needs
@@ -31,7 +31,7 @@ event-range-requires c κs = search needs
 
 returns-2 : tie.Need-returns-2
 unfolding firstStep endStep
-returns-2 c = rw (ne-eqb (c .before .before .before .before .args .track .kind) 0 (c .before .before .if1 .left), ← c .before .event-width .ensures .0) (c .event-range .ensures)
+returns-2 c = rw (ne-eqb (c .before .before .before .before .args .track .rule .kind) 0 (c .before .before .if1 .left), ← c .before .event-width .ensures .0) (c .event-range .ensures)
 
 pub candidates-spec : {M : Type 1} → statement M
 candidates-spec =
