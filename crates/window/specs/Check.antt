@@ -15,7 +15,7 @@ unfoldable pub smallest : (ℕ → Bool) → ℕ → Option ℕ
 smallest test zero = none
 smallest test (suc n) = orElse (smallest test n) (cond (test n) (some n) none)
 
--- a step is fresh if it is at least `next`, the first unused step; hits are candidates that match
+-- a step is fresh if it is at least `next`, the first unused step (document 01's terms); hits are candidates that match
 abbrev pub freshHit : (ℕ → Bool) → ℕ → ℕ → Bool
 freshHit hit next s = leb next s && hit s
 
