@@ -1,11 +1,9 @@
 -- The single check by two searches.
-use Prim.Native.Nat.{ℕ, _-_, _^_, _≤_, min, max}
+use Prim.Native.Nat.{ℕ, _-_, min, max}
 use mathlib.Core.Path.{_≡_, refl, sym, ap, ap₂, _∙_}
-use mathlib.Core.Bool.{Bool, false}
 use mathlib.Core.List.{List}
 use mathlib.Core.Option.{Option, none, some}
 use native.Mathlib.Nat.{le-trans, min-le-left}
-use lib.Dec.{eqb}
 use Rattle.window.specs.declared.Size.{Size}
 use Rattle.window.specs.declared.Step.{Step}
 use Rattle.window.specs.declared.Track.{Track}
@@ -13,7 +11,7 @@ use Rattle.window.specs.declared.Outcome.{Outcome}
 use Rattle.window.specs.declared.Outcome.the-variants.{Accepted, Used, Wrong}
 use Rattle.window.specs.declared.search.Found.{Found}
 use Rattle.window.specs.declared.search.Found.the-variants.{At, Nowhere}
-use Rattle.window.specs.Window.{timeToken, candidate, beyond}
+use Rattle.window.specs.Window.{candidate, beyond}
 use Rattle.window.specs.WindowLaws.{firstStep, endStep, candidates-are-range, end-below}
 use Rattle.window.specs.Check.{judged}
 use Rattle.window.specs.CheckLaws.{sweep}

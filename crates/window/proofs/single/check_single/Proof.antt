@@ -1,4 +1,3 @@
-use mathlib.Core.Path.{sym, _∙_}
 use borrow.Author.Needs.{needs}
 use Rattle.window.specs.SingleLaws.{end-fits, used-end-fits, single-accepted, single-used, single-wrong}
 use Rattle.window.proofs.single.check_single.Statement.{statement}
