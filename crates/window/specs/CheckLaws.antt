@@ -9,7 +9,7 @@ use native.Mathlib.Numerals.{add-one}
 use native.Mathlib.Omega.{arith}
 use Rattle.window.specs.declared.Step.{Step}
 use Rattle.window.specs.declared.Outcome.{Outcome}
-use Rattle.window.specs.declared.Outcome.the-variants.{Accepted, Used, Wrong}
+use Rattle.window.specs.declared.Outcome.the-variants.{Accepted, TooFar, Used, Wrong}
 use Rattle.window.specs.Check.{orElse, smallest, freshHit, usedHit, judged, checked}
 
 -- no number below n passes the test
@@ -70,6 +70,7 @@ least-is-smallest test n {s} l = told (smallest test n) (smallest-found test n)
 -- the step of an accepting outcome
 at : Outcome → ℕ
 at (Accepted s) = s .0
+at TooFar = 0
 at Used = 0
 at Wrong = 0
 

@@ -5,6 +5,6 @@ pub mod Check
 pub mod CheckLaws
 pub mod PasswordAt
 pub mod PasswordAtLaws
-pub mod Single
+pub mod TokenCheck
 pub mod SearchLaws
-pub mod SingleLaws
+pub mod TokenCheckLaws

@@ -1,13 +1,15 @@
 -- What a search asks of the password rule.
-use Prim.Native.Nat.{ℕ, _≤_, _<_, _^_}
-use mathlib.Core.Path.{_≡_, refl, ap, _∙_}
-use mathlib.Core.Bool.{Bool, true, false, cond}
-use mathlib.Core.List.{List, _++_}
+use Prim.Native.Nat.{ℕ, _+_, _≤_, _<_, _^_}
+use mathlib.Core.Path.{_≡_, refl, sym, ap, _∙_}
+use mathlib.Core.Bool.{Bool, true, false, cond, _&&_, _||_}
+use mathlib.Core.List.{List, [], _∷_, _++_}
+use native.Mathlib.Omega.{arith}
 use borrow.Author.Tests.{lt-ltb}
 use lib.Dec.{eqb, ltb}
-use lib.ListN.{take}
+use lib.ListN.{length, take}
 use lib.Seq.{take-append-seam}
 use Rattle.words.specs.Lists.{sameBytes}
+use Rattle.words.specs.ListsLaws.{same-lengths}
 use Rattle.otp.specs.declared.Factor.{Factor}
 use Rattle.otp.specs.declared.Factor.the-variants.{Absent, Present}
 use Rattle.otp.specs.Password.{passwordOf, argumentsOk}
@@ -26,6 +28,21 @@ StepOk kind s = eqb kind timeToken ≡ false → s < 2 ^ 32
 
 abbrev pub EndOk : ℕ → ℕ → Type 0
 EndOk kind end = eqb kind timeToken ≡ false → end ≤ 2 ^ 32
+
+-- how far the accepted step stands ahead of the one that matches: a pair's is the next one
+abbrev pub aheadOf : List ℕ → ℕ
+aheadOf [] = 0
+aheadOf (b ∷ following) = 1
+
+-- step s has the presented password and, of a pair, the next step the following one
+unfoldable pub matchesAt : Rule → List ℕ → List ℕ → List ℕ → List ℕ → ℕ → Bool
+matchesAt rule key challenge presented [] s = hasPassword rule key challenge presented s
+matchesAt rule key challenge presented (b ∷ following) s =
+    hasPassword rule key challenge presented s && hasPassword rule key challenge (b ∷ following) (s + 1)
+
+-- the presented passwords have as many digits as the token's
+abbrev pub countsRight : ℕ → List ℕ → List ℕ → Bool
+countsRight digits presented following = eqb (length presented) digits && (eqb (length following) 0 || eqb (length following) digits)
 
 pub arguments-at : (rule : Rule) (key challenge : List ℕ) (s : ℕ) → inRange rule key challenge ≡ true → StepOk (rule .kind) s
     → argumentsOk (rule .algorithm) key (timeOf (rule .kind) s) (countOf (rule .kind) s) challenge (rule .digits) ≡ true
@@ -51,3 +68,40 @@ compared rule key challenge presented rest s e t c o h =
     let p = passwordOf (rule .algorithm) key (timeOf (rule .kind) s) (countOf (rule .kind) s) challenge (rule .digits) in
     let l = length-password (rule .algorithm) key (timeOf (rule .kind) s) (countOf (rule .kind) s) challenge (rule .digits) in
     h ∙ ap (sameBytes presented) (rw (o, t, c, e) (rw l at (take-append-seam p rest)))
+
+module _ (rule : Rule) (key challenge presented : List ℕ) (s : ℕ) where
+  pub matches-not : (following : List ℕ) → hasPassword rule key challenge presented s ≡ false → false ≡ matchesAt rule key challenge presented following s
+  unfolding matchesAt
+  matches-not [] e = sym e
+  matches-not (b ∷ following) e = rw e
+
+  pub matches-alone : (following : List ℕ) → length following ≡ 0 → hasPassword rule key challenge presented s ≡ true
+      → true ≡ matchesAt rule key challenge presented following s
+  unfolding matchesAt
+  matches-alone [] z e = sym e
+  matches-alone (b ∷ following) z e = absurd (omega arith)
+
+  pub matches-pair : (following : List ℕ) → (length following ≡ 0 → ⊥) → hasPassword rule key challenge presented s ≡ true
+      → hasPassword rule key challenge following (s + 1) ≡ matchesAt rule key challenge presented following s
+  unfolding matchesAt
+  matches-pair [] n e = absurd (n refl)
+  matches-pair (b ∷ following) n e = rw e
+
+pub ahead-alone : (following : List ℕ) → length following ≡ 0 → 0 ≡ aheadOf following
+ahead-alone [] z = refl
+ahead-alone (b ∷ following) z = absurd (omega arith)
+
+pub ahead-pair : (following : List ℕ) → (length following ≡ 0 → ⊥) → 1 ≡ aheadOf following
+ahead-pair [] n = absurd (n refl)
+ahead-pair (b ∷ following) n = refl
+
+pub ahead-le : (following : List ℕ) → aheadOf following ≤ 1
+ahead-le [] = omega arith
+ahead-le (b ∷ following) = omega arith
+
+-- no step has a password of another length
+pub other-length : (rule : Rule) (key challenge presented : List ℕ) (s : ℕ) → (length presented ≡ rule .digits → ⊥) → hasPassword rule key challenge presented s ≡ false
+unfolding hasPassword passwordAt
+other-length rule key challenge presented s n =
+    let l = length-password (rule .algorithm) key (timeOf (rule .kind) s) (countOf (rule .kind) s) challenge (rule .digits) in
+    same-lengths presented (passwordOf (rule .algorithm) key (timeOf (rule .kind) s) (countOf (rule .kind) s) challenge (rule .digits)) (λ e. n (e ∙ l))

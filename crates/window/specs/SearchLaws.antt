@@ -1,6 +1,6 @@
 -- The search over a range, and what it has to do with the check's definition.
 use Prim.Native.Nat.{ℕ, zero, suc, _+_, _-_, _≤_, _<_, min, max}
-use mathlib.Core.Path.{_≡_, refl, _∙_}
+use mathlib.Core.Path.{_≡_, refl, sym, ap, _∙_}
 use mathlib.Core.Bool.{Bool, true, false, _&&_}
 use mathlib.Core.Logic.{⊎-elim}
 use mathlib.Core.Option.{Option, none, some}
@@ -9,11 +9,12 @@ use native.Mathlib.Omega.{arith}
 use borrow.Author.Tests.{leb-true, ltb-true, le-leb, lt-leb, lt-ltb, le-ltb}
 use lib.Dec.{leb, ltb}
 use Rattle.words.specs.Tables.{and-left, and-right}
-use Rattle.words.specs.ListsLaws.{and-false}
+use Rattle.words.specs.ListsLaws.{and-false, by-test}
+use Rattle.window.specs.declared.Step.{Step}
 use Rattle.window.specs.declared.search.Found.{Found}
 use Rattle.window.specs.declared.search.Found.the-variants.{At, Nowhere}
 use Rattle.window.specs.WindowLaws.{agree, and-both}
-use Rattle.window.specs.Check.{smallest, freshHit, usedHit, judged, checked, singleHit}
+use Rattle.window.specs.Check.{smallest, freshHit, usedHit, judged, checked}
 use Rattle.window.specs.CheckLaws.{NoneBelow, order, sweep, smallest-is-sweep}
 
 abbrev pub foundOf : Option ℕ → Found
@@ -71,7 +72,7 @@ module _ (test other : ℕ → Bool) (n from end : ℕ) (room : end ≤ n)
       ∙ sweep-same test other from (end - from) (λ r m k. inside-same r m (omega arith)))
       (order end from)
 
--- ---- the single check: fresh steps are searched, then used ones
+-- ---- the check: fresh steps are searched, then used ones
 
 leb-max : (a b r : ℕ) → leb (max a b) r ≡ leb b r && leb a r
 leb-max a b r =
@@ -94,19 +95,50 @@ used-tests true f e m = refl
 used-tests false true e m = refl
 used-tests false false e m = refl
 
-module _ (candidate matches : ℕ → Bool) (first end next n : ℕ) (room : end ≤ n)
-    (is-range : (s : ℕ) → candidate s ≡ leb first s && ltb s end) where
-  fresh-searched : smallest (freshHit (singleHit candidate matches) next) n ≡ sweep matches (max first next) (end - max first next)
+module _ (hit matches : ℕ → Bool) (first end next n : ℕ) (room : end ≤ n)
+    (within : (s : ℕ) → hit s ≡ (leb first s && ltb s end) && matches s) where
+  fresh-searched : smallest (freshHit hit next) n ≡ sweep matches (max first next) (end - max first next)
   fresh-searched =
-      smallest-in-range (freshHit (singleHit candidate matches) next) matches n (max first next) end room
-      (λ r. rw (is-range r, leb-max first next r) (fresh-tests (leb next r) (leb first r) (ltb r end) (matches r)))
+      smallest-in-range (freshHit hit next) matches n (max first next) end room
+      (λ r. rw (within r, leb-max first next r) (fresh-tests (leb next r) (leb first r) (ltb r end) (matches r)))
 
-  used-searched : smallest (usedHit (singleHit candidate matches) next) n ≡ sweep matches first (min end next - first)
+  used-searched : smallest (usedHit hit next) n ≡ sweep matches first (min end next - first)
   used-searched =
-      smallest-in-range (usedHit (singleHit candidate matches) next) matches n first (min end next) (le-trans (min-le-left end next) room)
-      (λ r. rw (is-range r, ltb-min end next r) (used-tests (ltb r next) (leb first r) (ltb r end) (matches r)))
+      smallest-in-range (usedHit hit next) matches n first (min end next) (le-trans (min-le-left end next) room)
+      (λ r. rw (within r, ltb-min end next r) (used-tests (ltb r next) (leb first r) (ltb r end) (matches r)))
 
-  pub single-searched : checked (singleHit candidate matches) next n
-      ≡ judged (sweep matches (max first next) (end - max first next)) (sweep matches first (min end next - first))
+  -- hits that lie in a range are searched there: fresh ones, then used ones
+  pub range-searched : checked hit next n ≡ judged (sweep matches (max first next) (end - max first next)) (sweep matches first (min end next - first))
   unfolding checked
-  single-searched = rw (fresh-searched, used-searched)
+  range-searched = rw (fresh-searched, used-searched)
+
+-- s and the next step are in the range
+pub both-in-range : (first end s : ℕ) → (leb first s && ltb s end) && (leb first (s + 1) && ltb (s + 1) end) ≡ leb first s && ltb s (end - 1)
+both-in-range first end s =
+    agree ((leb first s && ltb s end) && (leb first (s + 1) && ltb (s + 1) end)) (leb first s && ltb s (end - 1))
+    (λ h.
+    let a = and-left (leb first s && ltb s end) (leb first (s + 1) && ltb (s + 1) end) h in
+    let b = and-right (leb first s && ltb s end) (leb first (s + 1) && ltb (s + 1) end) h in
+    let l = ltb-true (s + 1) end (and-right (leb first (s + 1)) (ltb (s + 1) end) b) in
+    and-both (and-left (leb first s) (ltb s end) a) (lt-ltb s (end - 1) (omega arith)))
+    (λ h.
+    let l = leb-true first s (and-left (leb first s) (ltb s (end - 1)) h) in
+    let m = ltb-true s (end - 1) (and-right (leb first s) (ltb s (end - 1)) h) in
+    and-both (and-both (le-leb first s l) (lt-ltb s end (omega arith))) (and-both (le-leb first (s + 1) (omega arith)) (lt-ltb (s + 1) end (omega arith))))
+
+-- the step that was found
+abbrev place : Found → ℕ
+place (At s) = s .0
+place Nowhere = 0
+
+-- what a search finds lies before its end
+pub found-below : (test : ℕ → Bool) (from end : ℕ) {f : Found} {s : Step} → f ≡ foundOf (sweep test from (end - from)) → f ≡ At s → s .0 < end
+unfolding sweep
+found-below test from end {f} {s} e a = below (end - from) from (le-refl (end - from)) (sym e ∙ a)
+  where
+    below : (k from : ℕ) → k ≤ end - from → foundOf (sweep test from k) ≡ At s → s .0 < end
+    below zero from h e = let z : _≡_ {A = ℕ} 0 1 = cc in absurd (omega arith)
+    below (suc k) from h e =
+        by-test (test from)
+        (λ t. let z : from ≡ s .0 = ap place (rw t at e) in omega arith)
+        (λ t. below k (from + 1) (omega arith) (rw t at e))

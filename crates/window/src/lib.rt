@@ -1,14 +1,14 @@
 // Steps and windows (document 01, Part 3).
+mod checks;
 mod matching;
 mod range;
 mod search;
-mod single;
 
+pub use checks::check;
 pub use range::Range;
 pub use range::candidates;
 pub use range::step_at;
 pub use search::Found;
-pub use single::check_single;
 
 // The kind of a time token; an event token's is 1.
 pub(crate) const TIME_TOKEN: u8 = 0;
@@ -41,9 +41,10 @@ pub struct Track {
     pub offset: u16,
 }
 
-// What a check finds: the accepted step, or a password that was used or is wrong.
+// What a check finds: the accepted step, a match that would set d past 600 either way, or a password that was used or is wrong.
 pub enum Outcome {
     Accepted(Step),
+    TooFar,
     Used,
     Wrong,
 }

@@ -1,4 +1,4 @@
-// Whether a step has the presented password.
+// Whether a step has the presented passwords.
 use crate::Rule;
 use crate::TIME_TOKEN;
 use otp::Factor;
@@ -6,9 +6,10 @@ use otp::prepared::password_with;
 use words::bytes::same;
 ghost use mathlib.Core.Path.{_≡_};
 ghost use mathlib.Core.Bool.{true};
+ghost use Prim.Native.Nat.{_+_, _<_};
 ghost use Rattle.otp.specs.ChainLaws.{prepared};
 ghost use Rattle.window.specs.PasswordAt.{timeOf, countOf, hasPassword};
-ghost use Rattle.window.specs.PasswordAtLaws.{inRange, StepOk};
+ghost use Rattle.window.specs.PasswordAtLaws.{inRange, StepOk, aheadOf, matchesAt};
 
 fn time_of(kind: u8, s: u64) -> Factor
     ensures { λ r. ⌜ r ≡ timeOf kind s ⌝ }
@@ -31,7 +32,7 @@ fn count_of(kind: u8, s: u64) -> Factor
 }
 
 // The passwords are compared to their end, whatever their first digits.
-pub(crate) fn has_password(
+fn has_password(
     rule: Rule,
     key: &[u8],
     keys: &[u32],
@@ -59,4 +60,36 @@ pub(crate) fn has_password(
         &mut out,
     );
     same(presented, &out[0..n])
+}
+
+// How far the accepted step stands ahead of the one that matches: a pair's is the next one.
+pub(crate) fn ahead_of(following: &[u8]) -> u64
+    ensures { λ r. ⌜ r ≡ aheadOf (now (following .entry)) ⌝ }
+{
+    if following.len() == 0 { 0 } else { 1 }
+}
+
+// Whether step s has the presented password and, of a pair, the next step the following one.
+pub(crate) fn matches_at(
+    rule: Rule,
+    key: &[u8],
+    keys: &[u32],
+    challenge: &[u8],
+    presented: &[u8],
+    following: &[u8],
+    s: u64,
+) -> bool
+    requires { ⌜ inRange rule (now key) (now challenge) ≡ true ⌝ }
+    requires { ⌜ now keys ≡ prepared (rule .algorithm) (now key) ⌝ }
+    requires { ⌜ StepOk (rule .kind) (s + aheadOf (now following)) ⌝ }
+    requires { ⌜ s < 0xffff_ffff_ffff_ffff ⌝ }
+    ensures { λ r. ⌜ r ≡ matchesAt rule (now (key .entry)) (now (challenge .entry)) (now (presented .entry)) (now (following .entry)) s ⌝ }
+{
+    if !has_password(rule, key, keys, challenge, presented, s) {
+        return false;
+    }
+    if following.len() == 0 {
+        return true;
+    }
+    has_password(rule, key, keys, challenge, following, s + 1)
 }

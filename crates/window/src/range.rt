@@ -9,7 +9,7 @@ ghost use Prim.Native.Nat.{_-_, _^_, _≤_, _<_, min, max};
 ghost use Rattle.window.specs.Window.{stepAt, timeWidth, eventWidth, Sound};
 ghost use Rattle.window.specs.WindowLaws.{timeFirst, timeEnd, eventFirst, eventEnd, firstStep, endStep};
 
-const FARTHEST: u64 = 600;
+pub(crate) const FARTHEST: u64 = 600;
 
 const COUNTS: u64 = 0x1_0000_0000;
 
@@ -50,7 +50,7 @@ fn event_width(size: Size) -> u64
 }
 
 // a less b, or 0.
-fn less(a: u64, b: u64) -> u64
+pub(crate) fn less(a: u64, b: u64) -> u64
     ensures { λ r. ⌜ r ≡ a - b ⌝ }
 {
     if b <= a { a - b } else { 0 }

@@ -1,0 +1,95 @@
+// The single and the pair check (document 01, Part 3).
+use crate::Outcome;
+use crate::Seconds;
+use crate::Size;
+use crate::Step;
+use crate::TIME_TOKEN;
+use crate::Track;
+use crate::matching::ahead_of;
+use crate::range::FARTHEST;
+use crate::range::candidates;
+use crate::range::larger;
+use crate::range::less;
+use crate::range::smaller;
+use crate::range::step_at;
+use crate::search::Found;
+use crate::search::first_match;
+use otp::prepared::prepare;
+ghost use mathlib.Core.Path.{_≡_};
+ghost use mathlib.Core.Bool.{true};
+ghost use Rattle.window.specs.Window.{Sound};
+ghost use Rattle.window.specs.Check.{accepting};
+ghost use Rattle.window.specs.TokenCheck.{tooFar, checkOf};
+ghost use Rattle.window.specs.PasswordAtLaws.{inRange, countsRight};
+
+// Whether the presented passwords have as many digits as the token's.
+fn counts_right(digits: u8, presented: &[u8], following: &[u8]) -> bool
+    ensures { λ r. ⌜ r ≡ countsRight digits (now (presented .entry)) (now (following .entry)) ⌝ }
+{
+    let n = digits as usize;
+    (presented.len() == n) & ((following.len() == 0) | (following.len() == n))
+}
+
+// The outcome of a match whose step is a.
+fn accept(track: Track, clock: Seconds, a: u64) -> Outcome
+    requires { ⌜ Sound track (clock .0) ⌝ }
+    ensures { λ r. ⌜ r ≡ accepting (tooFar track (clock .0)) a ⌝ }
+{
+    if track.rule.kind == TIME_TOKEN {
+        let t = step_at(clock, track.period).0;
+        if FARTHEST < less(a, t) + less(t, a) {
+            return Outcome::TooFar;
+        }
+    }
+    Outcome::Accepted(Step(a))
+}
+
+// Fresh steps are searched first: if one matches, no used one counts. Of a pair, the last candidate has no next one.
+fn searched(
+    track: Track,
+    clock: Seconds,
+    size: Size,
+    key: &[u8],
+    challenge: &[u8],
+    presented: &[u8],
+    following: &[u8],
+) -> Outcome
+    requires { ⌜ Sound track (clock .0) ⌝ }
+    requires { ⌜ inRange (track .rule) (now key) (now challenge) ≡ true ⌝ }
+    ensures { λ r. ⌜ r ≡ checkOf track (clock .0) size (now (key .entry)) (now (challenge .entry)) (now (presented .entry)) (now (following .entry)) ⌝ }
+{
+    let keys = prepare(track.rule.algorithm, key);
+    let range = candidates(track, clock, size);
+    let ahead = ahead_of(following);
+    let first = range.first.0;
+    let end = less(range.end.0, ahead);
+    let fresh = larger(first, track.next);
+    if let Found::At(s) = first_match(track.rule, key, &keys, challenge, presented, following, fresh, end) {
+        return accept(track, clock, s.0 + ahead);
+    }
+    let used_end = smaller(end, track.next);
+    match first_match(track.rule, key, &keys, challenge, presented, following, first, used_end) {
+        Found::At(_) => Outcome::Used,
+        Found::Nowhere => Outcome::Wrong,
+    }
+}
+
+// The check of one presented password, or of two as a pair; following is empty where there is one.
+pub fn check(
+    track: Track,
+    clock: Seconds,
+    size: Size,
+    key: &[u8],
+    challenge: &[u8],
+    presented: &[u8],
+    following: &[u8],
+) -> Outcome
+    requires { ⌜ Sound track (clock .0) ⌝ }
+    requires { ⌜ inRange (track .rule) (now key) (now challenge) ≡ true ⌝ }
+    ensures { λ r. ⌜ r ≡ checkOf track (clock .0) size (now (key .entry)) (now (challenge .entry)) (now (presented .entry)) (now (following .entry)) ⌝ }
+{
+    if !counts_right(track.rule.digits, presented, following) {
+        return Outcome::Wrong;
+    }
+    searched(track, clock, size, key, challenge, presented, following)
+}
