@@ -28,6 +28,9 @@ extern "C" {
 /* Codes. */
 #define DL_DONE         0x0000 /* the result is written */
 #define DL_BAD_ARGUMENT 0x9005 /* an argument is out of range; nothing is written */
+#define DL_WRONG        0x8002 /* no step of the window has the password */
+#define DL_USED         0x8004 /* only steps before the first unused one have it */
+#define DL_TOO_FAR      0x8106 /* the step lies more than 600 from the clock's */
 
 /* Lengths. */
 #define DL_SM3_DIGEST_BYTES 32
@@ -39,6 +42,15 @@ extern "C" {
 /* Algorithms of a password. */
 #define DL_ALGORITHM_SM3 3
 #define DL_ALGORITHM_SM4 4
+
+/* Kinds of tokens. */
+#define DL_TIME_TOKEN  0
+#define DL_EVENT_TOKEN 1
+
+/* Sizes of windows: 2, 5 and 10 steps either way for a time token, 10, 20 and 50 ahead for an event token. */
+#define DL_SMALL  1
+#define DL_MEDIUM 2
+#define DL_LARGE  3
 
 /*
  * The SM3 hash of a message.
@@ -117,6 +129,41 @@ uint16_t dl_password(uint8_t algorithm, const uint8_t *key, size_t key_len,
                      uint8_t has_count, uint32_t count,
                      const uint8_t *challenge, size_t challenge_len,
                      uint8_t digits, uint8_t *out, size_t out_len);
+
+/*
+ * The check of a presented password, or of two in a row, against the window
+ * of a token whose numbers the caller keeps. It changes nothing: after
+ * DL_DONE the caller has to set `next` to the accepted step plus 1 and, for a
+ * time token, `offset` to that step minus now / period plus 600.
+ *
+ *   kind       DL_TIME_TOKEN or DL_EVENT_TOKEN
+ *   algorithm  DL_ALGORITHM_SM3 or DL_ALGORITHM_SM4
+ *   digits     of the token's passwords, 6 to 10
+ *   period     in seconds, 1 or more for a time token; an event token has none
+ *   next       the first unused step, at most 2^40 + 600
+ *   offset     the token's offset d, from -600 to 600, plus 600
+ *   now        the clock in seconds, below 2^40
+ *   size       DL_SMALL, DL_MEDIUM or DL_LARGE
+ *   key        key_len is 16 to 32
+ *   challenge  as for dl_password
+ *   presented  the password; one of another length than `digits` is wrong
+ *   following  the password of the next step; following_len is 0 where only
+ *              one password is checked
+ *   step       takes the accepted step in its first element: the smallest
+ *              unused one that matches, or the one after it for two
+ *              passwords; step_len is 1 or more
+ *
+ * Returns DL_DONE, DL_TOO_FAR, DL_USED, DL_WRONG or DL_BAD_ARGUMENT. Only
+ * DL_DONE writes.
+ */
+uint16_t dl_check(uint8_t kind, uint8_t algorithm, uint8_t digits,
+                  uint8_t period, uint64_t next, uint16_t offset,
+                  uint64_t now, uint8_t size,
+                  const uint8_t *key, size_t key_len,
+                  const uint8_t *challenge, size_t challenge_len,
+                  const uint8_t *presented, size_t presented_len,
+                  const uint8_t *following, size_t following_len,
+                  uint64_t *step, size_t step_len);
 
 #ifdef __cplusplus
 }

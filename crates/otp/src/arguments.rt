@@ -41,7 +41,7 @@ fn challenge_ok(challenge: &[u8]) -> bool
     (n == 0) | (((4 <= n) & (n <= 32)) & printable(challenge))
 }
 
-pub(crate) fn arguments_ok(
+pub fn arguments_ok(
     algorithm: u8,
     key: &[u8],
     time: Factor,

@@ -6,7 +6,7 @@ mod id;
 mod once;
 pub mod prepared;
 
-use arguments::arguments_ok;
+pub use arguments::arguments_ok;
 use cut::put_decimals;
 use once::truncated_once;
 use words::codes::BAD_ARGUMENT;

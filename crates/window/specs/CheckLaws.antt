@@ -1,4 +1,4 @@
--- What a check means, in words a reader knows, and the loop that computes it.
+-- The smallest number that passes a test, and the loop that finds it.
 use Prim.Native.Nat.{ℕ, zero, suc, _+_, _-_, _≤_, _<_, zero-le}
 use mathlib.Core.Path.{_≡_, refl, sym, ap, _∙_}
 use mathlib.Core.Bool.{Bool, true, false, cond}
@@ -7,10 +7,7 @@ use mathlib.Core.Option.{Option, none, some}
 use native.Mathlib.Nat.{not-suc-le-zero, le-refl, le-trans, le-suc}
 use native.Mathlib.Numerals.{add-one}
 use native.Mathlib.Omega.{arith}
-use Rattle.window.specs.declared.Step.{Step}
-use Rattle.window.specs.declared.Outcome.{Outcome}
-use Rattle.window.specs.declared.Outcome.the-variants.{Accepted, TooFar, Used, Wrong}
-use Rattle.window.specs.Check.{orElse, smallest, freshHit, usedHit, judged, checked}
+use Rattle.window.specs.Check.{orElse, smallest}
 
 -- no number below n passes the test
 abbrev pub NoneBelow : (ℕ → Bool) → ℕ → Type 0
@@ -32,11 +29,11 @@ below-suc test n h e r l = ⊎-elim (λ (m : r < n). h r m) (λ (m : r ≡ n). r
     cases (suc r) (suc n) l = ⊎-elim (λ (m : r < n). inl (omega arith)) (λ (m : r ≡ n). inr (ap suc m)) (cases r n (omega arith))
 
 -- what `smallest` finds
-data Found (test : ℕ → Bool) (n : ℕ) : Option ℕ → Type 0 where
+pub data Found (test : ℕ → Bool) (n : ℕ) : Option ℕ → Type 0 where
   found : {s : ℕ} → Least test n s → Found test n (some s)
   missing : NoneBelow test n → Found test n none
 
-smallest-found : (test : ℕ → Bool) (n : ℕ) → Found test n (smallest test n)
+pub smallest-found : (test : ℕ → Bool) (n : ℕ) → Found test n (smallest test n)
 unfolding smallest
 smallest-found test zero = missing (λ r l. absurd (not-suc-le-zero l))
 smallest-found test (suc n) = next (smallest test n) (smallest-found test n) (test n) refl
@@ -46,7 +43,7 @@ smallest-found test (suc n) = next (smallest test n) (smallest-found test n) (te
     next none (missing h) true e = found {s = n} (record { within = le-refl (suc n); passes = e; before = h })
     next none (missing h) false e = missing (below-suc test n h e)
 
-clash : {X : Type 0} {b : Bool} → b ≡ true → b ≡ false → X
+pub clash : {X : Type 0} {b : Bool} → b ≡ true → b ≡ false → X
 clash t f = let z : true ≡ false = sym t ∙ f in let y : _≡_ {A = ℕ} 0 1 = cc in absurd (omega arith)
 
 pub order : (r s : ℕ) → (r < s) ⊎ (s ≤ r)
@@ -66,71 +63,6 @@ least-is-smallest test n {s} l = told (smallest test n) (smallest-found test n)
     told : (o : Option ℕ) → Found test n o → o ≡ some s
     told (some x) (found m) = ap some (least-unique test n m l)
     told none (missing h) = clash (l .passes) (h s (l .within))
-
--- the step of an accepting outcome
-at : Outcome → ℕ
-at (Accepted s) = s .0
-at TooFar = 0
-at Used = 0
-at Wrong = 0
-
--- ---- the check's three outcomes, each exactly when it should be
-
-module _ (hit : ℕ → Bool) (next n : ℕ) where
-  -- accepted: the step is the smallest fresh hit
-  pub accepted-is-least : {s : Step} → checked hit next n ≡ Accepted s → Least (freshHit hit next) n (s .0)
-  unfolding checked at
-  accepted-is-least {s} e = told (smallest (freshHit hit next) n) (smallest-found (freshHit hit next) n) (smallest (usedHit hit next) n) e
-    where
-      told : (o : Option ℕ) → Found (freshHit hit next) n o → (u : Option ℕ) → judged o u ≡ Accepted s → Least (freshHit hit next) n (s .0)
-      told (some x) (found l) u e = let z : x ≡ s .0 = ap at e in rw z at l
-      told none (missing h) (some y) e = let z : _≡_ {A = ℕ} 0 1 = cc in absurd (omega arith)
-      told none (missing h) none e = let z : _≡_ {A = ℕ} 0 1 = cc in absurd (omega arith)
-
-  -- and the smallest fresh hit is accepted
-  pub least-is-accepted : {s : ℕ} → Least (freshHit hit next) n s → checked hit next n ≡ Accepted (record { 0 = s })
-  unfolding checked
-  least-is-accepted {s} l = told (smallest (freshHit hit next) n) (smallest-found (freshHit hit next) n) (smallest (usedHit hit next) n)
-    where
-      told : (o : Option ℕ) → Found (freshHit hit next) n o → (u : Option ℕ) → judged o u ≡ Accepted (record { 0 = s })
-      told (some x) (found m) u = let e : x ≡ s = least-unique (freshHit hit next) n m l in rw e
-      told none (missing h) u = clash (l .passes) (h s (l .within))
-
-  -- used: no fresh step hits, and one that is not fresh does
-  pub used-exactly : (checked hit next n ≡ Used → NoneBelow (freshHit hit next) n × ((s : ℕ) × Least (usedHit hit next) n s))
-      × (NoneBelow (freshHit hit next) n → (s : ℕ) → Least (usedHit hit next) n s → checked hit next n ≡ Used)
-  unfolding checked
-  used-exactly = (λ e. there (smallest (freshHit hit next) n) (smallest-found (freshHit hit next) n) (smallest (usedHit hit next) n) (smallest-found (usedHit hit next) n) e, λ h s l. back (smallest (freshHit hit next) n) (smallest-found (freshHit hit next) n) (smallest (usedHit hit next) n) (smallest-found (usedHit hit next) n) h s l)
-    where
-      there : (o : Option ℕ) → Found (freshHit hit next) n o → (u : Option ℕ) → Found (usedHit hit next) n u → judged o u ≡ Used
-          → NoneBelow (freshHit hit next) n × ((s : ℕ) × Least (usedHit hit next) n s)
-      there (some x) (found l) u f e = let z : _≡_ {A = ℕ} 0 1 = cc in absurd (omega arith)
-      there none (missing h) (some y) (found m) e = (h, (y, m))
-      there none (missing h) none (missing k) e = let z : _≡_ {A = ℕ} 0 1 = cc in absurd (omega arith)
-
-      back : (o : Option ℕ) → Found (freshHit hit next) n o → (u : Option ℕ) → Found (usedHit hit next) n u
-          → NoneBelow (freshHit hit next) n → (s : ℕ) → Least (usedHit hit next) n s → judged o u ≡ Used
-      back (some x) (found m) u f h s l = clash (m .passes) (h x (m .within))
-      back none (missing k) (some y) (found m) h s l = refl
-      back none (missing k) none (missing j) h s l = clash (l .passes) (j s (l .within))
-
-  -- wrong: no step hits, fresh or not
-  pub wrong-exactly : (checked hit next n ≡ Wrong → NoneBelow (freshHit hit next) n × NoneBelow (usedHit hit next) n)
-      × (NoneBelow (freshHit hit next) n → NoneBelow (usedHit hit next) n → checked hit next n ≡ Wrong)
-  unfolding checked
-  wrong-exactly = (λ e. there (smallest (freshHit hit next) n) (smallest-found (freshHit hit next) n) (smallest (usedHit hit next) n) (smallest-found (usedHit hit next) n) e, λ h k. back (smallest (freshHit hit next) n) (smallest-found (freshHit hit next) n) (smallest (usedHit hit next) n) (smallest-found (usedHit hit next) n) h k)
-    where
-      there : (o : Option ℕ) → Found (freshHit hit next) n o → (u : Option ℕ) → Found (usedHit hit next) n u → judged o u ≡ Wrong
-          → NoneBelow (freshHit hit next) n × NoneBelow (usedHit hit next) n
-      there (some x) (found l) u f e = let z : _≡_ {A = ℕ} 0 1 = cc in absurd (omega arith)
-      there none (missing h) (some y) (found m) e = let z : _≡_ {A = ℕ} 0 1 = cc in absurd (omega arith)
-      there none (missing h) none (missing k) e = (h, k)
-
-      back : (o : Option ℕ) → Found (freshHit hit next) n o → (u : Option ℕ) → Found (usedHit hit next) n u
-          → NoneBelow (freshHit hit next) n → NoneBelow (usedHit hit next) n → judged o u ≡ Wrong
-      back (some x) (found m) u f h k = clash (m .passes) (h x (m .within))
-      back none (missing j) (some y) (found m) h k = clash (m .passes) (k y (m .within))
-      back none (missing j) none (missing i) h k = refl
 
 -- ---- the loop
 

@@ -5,6 +5,8 @@ pub mod Check
 pub mod CheckLaws
 pub mod PasswordAt
 pub mod PasswordAtLaws
+pub mod Arguments
 pub mod TokenCheck
+pub mod Meaning
 pub mod SearchLaws
 pub mod TokenCheckLaws

@@ -20,7 +20,8 @@ use Rattle.window.specs.declared.search.Found.the-variants.{At, Nowhere}
 use Rattle.window.specs.Window.{candidate, beyond}
 use Rattle.window.specs.WindowLaws.{firstStep, endStep, candidates-are-range, end-below}
 use Rattle.window.specs.Check.{judged, checked, singleHit, pairHit, accepting, settled}
-use Rattle.window.specs.CheckLaws.{sweep, wrong-exactly}
+use Rattle.window.specs.CheckLaws.{sweep}
+use Rattle.window.specs.Meaning.{single-wrong-exactly, pair-wrong-exactly}
 use Rattle.window.specs.PasswordAt.{hasPassword}
 use Rattle.window.specs.PasswordAtLaws.{EndOk, aheadOf, matchesAt, countsRight, other-length}
 use Rattle.window.specs.TokenCheck.{tooFar, singleCheck, pairCheck, checkOf}
@@ -101,25 +102,16 @@ module _ (k : Track) (clock : ℕ) (size : Size) (key challenge presented follow
     pub check-wrong : g ≡ Nowhere → Wrong ≡ checkOf k clock size key challenge presented following
     check-wrong j = sym (judged-used ∙ ap (λ (x : Found). settled (tooFar k clock) ahead (judge Nowhere x)) j)
 
--- ---- a digit count not the token's
+-- ---- a digit count not the token's is wrong, and nothing need be searched
 
-no-hit : (hit : ℕ → Bool) (next n : ℕ) → ((s : ℕ) → hit s ≡ false) → checked hit next n ≡ Wrong
-no-hit hit next n h = wrong-exactly hit next n .1 (λ r l. rw (h r) (and-false (leb next r))) (λ r l. rw (h r) (and-false (ltb r next)))
-
--- is wrong, and nothing need be searched
 pub check-counted : (k : Track) (clock : ℕ) (size : Size) (key challenge presented following : List ℕ)
     → countsRight (k .rule .digits) presented following ≡ false → Wrong ≡ checkOf k clock size key challenge presented following
-unfolding checkOf singleCheck pairCheck
+unfolding checkOf
 check-counted k clock size key challenge presented [] e =
-    let none = no-hit (singleHit (candidate k clock size) (hasPassword (k .rule) key challenge presented)) (k .next) (beyond k clock)
-    (λ s. rw (other-length (k .rule) key challenge presented s (eqb-false (length presented) (k .rule .digits) (rw and-true at e))) (and-false (candidate k clock size s))) in
-    rw none
+    sym (single-wrong-exactly k clock size (hasPassword (k .rule) key challenge presented) .1
+    (λ s. rw (other-length (k .rule) key challenge presented s (eqb-false (length presented) (k .rule .digits) (rw and-true at e))) (and-false (candidate k clock size s))))
 check-counted k clock size key challenge presented (b ∷ following) e =
-    let none = no-hit (pairHit (candidate k clock size) (hasPassword (k .rule) key challenge presented) (hasPassword (k .rule) key challenge (b ∷ following))) (k .next) (beyond k clock) (λ s. neither s) in
-    rw none
-  where
-    neither : (s : ℕ) → pairHit (candidate k clock size) (hasPassword (k .rule) key challenge presented) (hasPassword (k .rule) key challenge (b ∷ following)) s ≡ false
-    neither s =
-        by-test (eqb (length presented) (k .rule .digits))
-        (λ t. rw (other-length (k .rule) key challenge (b ∷ following) (s + 1) (eqb-false (suc (length following)) (k .rule .digits) (rw (t, ne-eqb (suc (length following)) 0 (λ z. omega arith)) at e)), and-false, and-false))
-        (λ t. rw (other-length (k .rule) key challenge presented s (eqb-false (length presented) (k .rule .digits) t)) (and-false (candidate k clock size s && candidate k clock size (s + 1))))
+    sym (pair-wrong-exactly k clock size (hasPassword (k .rule) key challenge presented) (hasPassword (k .rule) key challenge (b ∷ following)) .1
+    (λ s. by-test (eqb (length presented) (k .rule .digits))
+    (λ t. rw (other-length (k .rule) key challenge (b ∷ following) (s + 1) (eqb-false (suc (length following)) (k .rule .digits) (rw (t, ne-eqb (suc (length following)) 0 (λ z. omega arith)) at e)), and-false, and-false))
+    (λ t. rw (other-length (k .rule) key challenge presented s (eqb-false (length presented) (k .rule .digits) t)) (and-false (candidate k clock size s && candidate k clock size (s + 1))))))

@@ -1,9 +1,11 @@
 // Steps and windows (document 01, Part 3).
+mod arguments;
 mod checks;
 mod matching;
 mod range;
 mod search;
 
+pub use arguments::checkable;
 pub use checks::check;
 pub use range::Range;
 pub use range::candidates;
