@@ -1,3 +1,4 @@
 -- What the C functions leave in their lent outputs.
 pub mod Stored
+pub mod Checked
 pub mod CopyLaws

@@ -1,6 +1,5 @@
--- The password of GM/T 0021-2012, clause 6 (document 01, Part 2): the definition, its laws, the set cases.
+-- The password of GM/T 0021-2012, clause 6 (document 01, Part 2): the definition and its laws.
 pub mod Password
 pub mod PasswordLaws
 pub mod IdLaws
 pub mod ChainLaws
-pub mod SetCases

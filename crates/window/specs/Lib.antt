@@ -1,4 +1,4 @@
--- Steps and windows (document 01, Part 3): candidates, the single and the pair check, and what they mean.
+-- Steps and windows (document 01, Part 3): candidates, the single and the pair check, what they mean, and the set cases.
 pub mod Window
 pub mod WindowLaws
 pub mod Check
@@ -10,3 +10,4 @@ pub mod TokenCheck
 pub mod Meaning
 pub mod SearchLaws
 pub mod TokenCheckLaws
+pub mod SetCases

@@ -1,0 +1,50 @@
+use mathlib.Core.Path.{refl}
+use Rattle.capi.specs.Checked.{write-first}
+use borrow.Author.Needs.{needs}
+use Rattle.capi.proofs.token.put_outcome.Statement.{statement}
+use Rattle.capi.proofs.token.put_outcome.Tie as tie
+
+enum-known-outcome : tie.Need-enum-known-outcome
+enum-known-outcome c = search needs
+
+slice-write-step : tie.Need-slice-write-step
+slice-write-step c = search needs
+
+enum-told : tie.Need-enum-told
+enum-told c = search needs
+
+enum-told-2 : tie.Need-enum-told-2
+enum-told-2 c = search needs
+
+enum-told-3 : tie.Need-enum-told-3
+enum-told-3 c = search needs
+
+same-length : tie.Need-same-length
+same-length c = search needs
+
+returns : tie.Need-returns
+returns c = rw (c .before .outcome .given .1) (refl, write-first (c .before .before .before .args .step .now) (c .before .outcome .given .0 .0 .0) (c .before .before .before .pre))
+
+returns-2 : tie.Need-returns-2
+returns-2 c = search needs
+
+returns-3 : tie.Need-returns-3
+returns-3 c = search needs
+
+returns-4 : tie.Need-returns-4
+returns-4 c = search needs
+
+pub put-outcome-spec : {M : Type 1} → statement M
+put-outcome-spec =
+    tie.close
+    (tie.spec
+    enum-known-outcome
+    slice-write-step
+    enum-told
+    enum-told-2
+    enum-told-3
+    same-length
+    returns
+    returns-2
+    returns-3
+    returns-4)

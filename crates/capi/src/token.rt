@@ -1,0 +1,101 @@
+// The check of a token's window, for callers who keep the token's numbers themselves.
+use window::Outcome;
+use window::Rule;
+use window::Seconds;
+use window::Size;
+use window::Track;
+use window::check;
+use window::checkable;
+use words::codes::BAD_ARGUMENT;
+use words::codes::DONE;
+ghost use mathlib.Core.Path.{_≡_};
+ghost use Prim.Native.Nat.{_<_};
+ghost use lib.ListN.{length};
+ghost use Rattle.capi.specs.Checked.{sizeOf, trackOf, outcomeLeft, checkLeft};
+
+const WRONG: u16 = 0x8002;
+
+const USED: u16 = 0x8004;
+
+const TOO_FAR: u16 = 0x8106;
+
+// The size that a number from 1 to 3 stands for.
+pub enum SizeRead {
+    Is(Size),
+    Unknown,
+}
+
+fn size_of(number: u8) -> SizeRead
+    ensures { λ r. ⌜ r ≡ sizeOf number ⌝ }
+{
+    if number == 1 {
+        return SizeRead::Is(Size::Small);
+    }
+    if number == 2 {
+        return SizeRead::Is(Size::Medium);
+    }
+    if number == 3 {
+        return SizeRead::Is(Size::Large);
+    }
+    SizeRead::Unknown
+}
+
+// The outcome's code, and an accepted step in the first element of step.
+fn put_outcome(outcome: Outcome, step: &mut [u64]) -> u16
+    requires { ⌜ 0 < length (now step) ⌝ }
+    ensures { λ r. ⌜ r ≡ outcomeLeft outcome (now (step .entry)) .code ⌝ }
+    ensures { λ _. ⌜ now (step .exit) ≡ outcomeLeft outcome (now (step .entry)) .out ⌝ }
+{
+    match outcome {
+        Outcome::Accepted(s) => {
+            step[0] = s.0;
+            DONE
+        }
+        Outcome::TooFar => TOO_FAR,
+        Outcome::Used => USED,
+        Outcome::Wrong => WRONG,
+    }
+}
+
+// The check of one presented password, or of two; an accepted step goes to the first element of step.
+#[no_mangle]
+pub extern "C" fn dl_check(
+    kind: u8,
+    algorithm: u8,
+    digits: u8,
+    period: u8,
+    next: u64,
+    offset: u16,
+    clock: u64,
+    size: u8,
+    key: &[u8],
+    challenge: &[u8],
+    presented: &[u8],
+    following: &[u8],
+    step: &mut [u64],
+) -> u16
+    ensures { λ r. ⌜ r ≡ checkLeft (trackOf kind algorithm digits period next offset) clock size (now (key .entry)) (now (challenge .entry)) (now (presented .entry)) (now (following .entry)) (now (step .entry)) .code ⌝ }
+    ensures { λ _. ⌜ now (step .exit) ≡ checkLeft (trackOf kind algorithm digits period next offset) clock size (now (key .entry)) (now (challenge .entry)) (now (presented .entry)) (now (following .entry)) (now (step .entry)) .out ⌝ }
+{
+    let track = Track {
+        rule: Rule {
+            kind,
+            algorithm,
+            digits,
+        },
+        period,
+        next,
+        offset,
+    };
+    if !checkable(track, Seconds(clock), key, challenge) {
+        return BAD_ARGUMENT;
+    }
+    if step.len() == 0 {
+        return BAD_ARGUMENT;
+    }
+    let SizeRead::Is(read) = size_of(size) else {
+        return BAD_ARGUMENT;
+    };
+    let outcome = check(track, Seconds(clock), read, key, challenge, presented, following);
+    put_outcome(outcome, step)
+}

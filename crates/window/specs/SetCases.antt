@@ -1,0 +1,71 @@
+-- The set cases of document 01, as a table with one proof over the definitions.
+use Prim.Native.Nat.{ℕ, zero, suc, _+_, _-_, _^_}
+use mathlib.Core.Path.{_≡_, refl}
+use mathlib.Core.Bool.{Bool, true, cond, _&&_}
+use mathlib.Core.List.{List, [], _∷_, _++_}
+use lib.Dec.{eqb}
+use lib.ListN.{replicate}
+use Rattle.words.specs.Bytes.{beAt, beBytes}
+use Rattle.words.specs.Lists.{sameBytes}
+use Rattle.window.specs.declared.Size.{Size}
+use Rattle.window.specs.declared.Size.the-variants.{Small}
+use Rattle.window.specs.declared.Track.{Track}
+use Rattle.window.specs.Window.{timeCandidate, eventCandidate, candidate}
+use Rattle.otp.specs.declared.Factor.the-variants.{Absent, Present}
+use Rattle.otp.specs.Password.{factorBytes, idOf, filled, blockSum, wordSum, cut, decimals, shown}
+
+-- a case: document 01's number of it, and a test that computes
+pub record Case : Type 0 where
+  pub number : ℕ
+  pub holds : Bool
+
+abbrev pub case : ℕ → Bool → Case
+case n b = record { number = n; holds = b }
+
+abbrev pub allHold : List Case → Bool
+allHold [] = true
+allHold (c ∷ cs) = c .holds && allHold cs
+
+-- the words of cases 1 and 2, and those of case 3 as Annex C.1 prints them
+abbrev pub fourWords : List ℕ
+fourWords = beBytes 16 0x880d6ae77ecf8ee5235c7198e13f159c
+
+abbrev pub eightWords : List ℕ
+eightWords = beBytes 32 0x25e0b00d750eb01258ef7db5375626414aefe7fd826ac07e3e5eb3e8d8ebba4b
+
+-- ASCII digits
+abbrev pub text446720 : List ℕ
+text446720 = 0x34 ∷ 0x34 ∷ 0x36 ∷ 0x37 ∷ 0x32 ∷ 0x30 ∷ []
+
+abbrev pub text5678 : List ℕ
+text5678 = 0x35 ∷ 0x36 ∷ 0x37 ∷ 0x38 ∷ []
+
+-- tokens of the cases: a period and d + 600, or a first unused step
+abbrev pub timeTrack : ℕ → ℕ → Track
+timeTrack period offset = record { rule = record { kind = 0; algorithm = 3; digits = 6 }; period = period; next = 0; offset = offset }
+
+abbrev pub eventTrack : ℕ → Track
+eventTrack next = record { rule = record { kind = 1; algorithm = 3; digits = 6 }; period = 0; next = next; offset = 600 }
+
+-- the candidates among `count` steps, from a step on; `candidates-are-range` says that there are no gaps
+unfoldable pub candidatesFrom : ℕ → ℕ → Track → ℕ → Size → List ℕ
+candidatesFrom s zero k clock size = []
+candidatesFrom s (suc count) k clock size = cond (candidate k clock size s) (s ∷ []) [] ++ candidatesFrom (s + 1) count k clock size
+
+abbrev pub setCases : List Case
+setCases =
+    case 1 (eqb (cut fourWords) 0x0b788100 && sameBytes (shown 6 fourWords) text446720)
+    ∷ case 2 (sameBytes (shown 10 fourWords) (0x30 ∷ 0x31 ∷ 0x39 ∷ 0x32 ∷ text446720))
+    ∷ case 3 (eqb (cut eightWords) 0x0fda1ac3)
+    ∷ case 4 (sameBytes (filled (idOf (Present 1340783053) (Present 1234) text5678)) (beBytes 16 0x000000004feab9cd000004d235363738))
+    ∷ case 5 (sameBytes (filled (idOf (Present 1) Absent [])) (replicate 7 0 ++ (1 ∷ replicate 8 0)))
+    ∷ case 6 (sameBytes (blockSum (replicate 16 0xff) (beBytes 16 1)) (replicate 16 0))
+    ∷ case 7 (sameBytes (candidatesFrom 0 20 (timeTrack 60 600) 119 Small) (0 ∷ 1 ∷ 2 ∷ 3 ∷ []))
+    ∷ case 8 (sameBytes (candidatesFrom 0 30 (eventTrack 5) 0 Small) (4 ∷ 5 ∷ 6 ∷ 7 ∷ 8 ∷ 9 ∷ 10 ∷ 11 ∷ 12 ∷ 13 ∷ 14 ∷ []))
+    ∷ case 9 (sameBytes (candidatesFrom (2 ^ 32 - 20) 40 (eventTrack (2 ^ 32 - 1)) 0 Small) ((2 ^ 32 - 2) ∷ (2 ^ 32 - 1) ∷ []))
+    ∷ case 10 (sameBytes (candidatesFrom 1590 20 (timeTrack 1 1200) 1000 Small) (1598 ∷ 1599 ∷ 1600 ∷ []))
+    ∷ []
+
+pub set-cases-hold : allHold setCases ≡ true
+unfolding factorBytes idOf filled blockSum wordSum cut decimals shown sameBytes beAt beBytes candidatesFrom candidate timeCandidate eventCandidate
+set-cases-hold = refl
