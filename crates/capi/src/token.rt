@@ -96,6 +96,14 @@ pub extern "C" fn dl_check(
     let SizeRead::Is(read) = size_of(size) else {
         return BAD_ARGUMENT;
     };
-    let outcome = check(track, Seconds(clock), read, key, challenge, presented, following);
+    let outcome = check(
+        track,
+        Seconds(clock),
+        read,
+        key,
+        challenge,
+        presented,
+        following,
+    );
     put_outcome(outcome, step)
 }

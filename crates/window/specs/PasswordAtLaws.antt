@@ -1,8 +1,9 @@
 -- What a search asks of the password rule.
-use Prim.Native.Nat.{ℕ, _+_, _≤_, _<_, _^_}
+use Prim.Native.Nat.{ℕ, _-_, _≤_, _<_, _^_}
 use mathlib.Core.Path.{_≡_, refl, sym, ap, _∙_}
 use mathlib.Core.Bool.{Bool, true, false, cond, _&&_, _||_}
 use mathlib.Core.List.{List, [], _∷_, _++_}
+use native.Mathlib.Nat.{sub-zero}
 use native.Mathlib.Omega.{arith}
 use borrow.Author.Tests.{lt-ltb}
 use lib.Dec.{eqb, ltb}
@@ -29,16 +30,16 @@ StepOk kind s = eqb kind timeToken ≡ false → s < 2 ^ 32
 abbrev pub EndOk : ℕ → ℕ → Type 0
 EndOk kind end = eqb kind timeToken ≡ false → end ≤ 2 ^ 32
 
--- how far the accepted step stands ahead of the one that matches: a pair's is the next one
+-- how far the accepted step stands ahead of the first that matches: a pair's is the next one
 abbrev pub aheadOf : List ℕ → ℕ
 aheadOf [] = 0
 aheadOf (b ∷ following) = 1
 
--- step s has the presented password and, of a pair, the next step the following one
+-- a is the step to accept: it has the presented password or, of a pair, the following one, and the step before it the presented one
 unfoldable pub matchesAt : Rule → List ℕ → List ℕ → List ℕ → List ℕ → ℕ → Bool
-matchesAt rule key challenge presented [] s = hasPassword rule key challenge presented s
-matchesAt rule key challenge presented (b ∷ following) s =
-    hasPassword rule key challenge presented s && hasPassword rule key challenge (b ∷ following) (s + 1)
+matchesAt rule key challenge presented [] a = hasPassword rule key challenge presented a
+matchesAt rule key challenge presented (b ∷ following) a =
+    hasPassword rule key challenge presented (a - 1) && hasPassword rule key challenge (b ∷ following) a
 
 -- the presented passwords have as many digits as the token's
 abbrev pub countsRight : ℕ → List ℕ → List ℕ → Bool
@@ -69,20 +70,21 @@ compared rule key challenge presented rest s e t c o h =
     let l = length-password (rule .algorithm) key (timeOf (rule .kind) s) (countOf (rule .kind) s) challenge (rule .digits) in
     h ∙ ap (sameBytes presented) (rw (o, t, c, e) (rw l at (take-append-seam p rest)))
 
-module _ (rule : Rule) (key challenge presented : List ℕ) (s : ℕ) where
-  pub matches-not : (following : List ℕ) → hasPassword rule key challenge presented s ≡ false → false ≡ matchesAt rule key challenge presented following s
+module _ (rule : Rule) (key challenge presented : List ℕ) (a : ℕ) where
+  -- what is tested first, where the presented password stands
+  pub matches-not : (following : List ℕ) → hasPassword rule key challenge presented (a - aheadOf following) ≡ false → false ≡ matchesAt rule key challenge presented following a
   unfolding matchesAt
-  matches-not [] e = sym e
+  matches-not [] e = sym (rw sub-zero at e)
   matches-not (b ∷ following) e = rw e
 
-  pub matches-alone : (following : List ℕ) → length following ≡ 0 → hasPassword rule key challenge presented s ≡ true
-      → true ≡ matchesAt rule key challenge presented following s
+  pub matches-alone : (following : List ℕ) → length following ≡ 0 → hasPassword rule key challenge presented (a - aheadOf following) ≡ true
+      → true ≡ matchesAt rule key challenge presented following a
   unfolding matchesAt
-  matches-alone [] z e = sym e
+  matches-alone [] z e = sym (rw sub-zero at e)
   matches-alone (b ∷ following) z e = absurd (omega arith)
 
-  pub matches-pair : (following : List ℕ) → (length following ≡ 0 → ⊥) → hasPassword rule key challenge presented s ≡ true
-      → hasPassword rule key challenge following (s + 1) ≡ matchesAt rule key challenge presented following s
+  pub matches-pair : (following : List ℕ) → (length following ≡ 0 → ⊥) → hasPassword rule key challenge presented (a - aheadOf following) ≡ true
+      → hasPassword rule key challenge following a ≡ matchesAt rule key challenge presented following a
   unfolding matchesAt
   matches-pair [] n e = absurd (n refl)
   matches-pair (b ∷ following) n e = rw e

@@ -10,11 +10,12 @@ use borrow.Author.Tests.{leb-true, ltb-true, le-leb, lt-leb, lt-ltb, le-ltb}
 use lib.Dec.{leb, ltb}
 use Rattle.words.specs.Tables.{and-left, and-right}
 use Rattle.words.specs.ListsLaws.{and-false, by-test}
-use Rattle.window.specs.declared.Step.{Step}
+use Rattle.window.specs.declared.Outcome.{Outcome}
+use Rattle.window.specs.declared.Outcome.the-variants.{Used, Wrong}
 use Rattle.window.specs.declared.search.Found.{Found}
 use Rattle.window.specs.declared.search.Found.the-variants.{At, Nowhere}
 use Rattle.window.specs.WindowLaws.{agree, and-both}
-use Rattle.window.specs.Check.{smallest, freshHit, usedHit, judged, checked}
+use Rattle.window.specs.Check.{smallest, freshHit, usedHit, judged, checked, accepting, settled}
 use Rattle.window.specs.CheckLaws.{NoneBelow, order, sweep, smallest-is-sweep}
 
 abbrev pub foundOf : Option ℕ → Found
@@ -126,19 +127,48 @@ both-in-range first end s =
     let m = ltb-true s (end - 1) (and-right (leb first s) (ltb s (end - 1)) h) in
     and-both (and-both (le-leb first s l) (lt-ltb s end (omega arith))) (and-both (le-leb first (s + 1) (omega arith)) (lt-ltb (s + 1) end (omega arith))))
 
--- the step that was found
-abbrev place : Found → ℕ
-place (At s) = s .0
-place Nowhere = 0
+-- ---- the search by the step to accept, which stands ahead of the hit
 
--- what a search finds lies before its end
-pub found-below : (test : ℕ → Bool) (from end : ℕ) {f : Found} {s : Step} → f ≡ foundOf (sweep test from (end - from)) → f ≡ At s → s .0 < end
+abbrev shifted : ℕ → Option ℕ → Option ℕ
+shifted ahead none = none
+shifted ahead (some s) = some (s + ahead)
+
+sweep-shifted : (test matches : ℕ → Bool) (ahead : ℕ) → ((s : ℕ) → test (s + ahead) ≡ matches s) → (from k : ℕ) → sweep test (from + ahead) k ≡ shifted ahead (sweep matches from k)
 unfolding sweep
-found-below test from end {f} {s} e a = below (end - from) from (le-refl (end - from)) (sym e ∙ a)
-  where
-    below : (k from : ℕ) → k ≤ end - from → foundOf (sweep test from k) ≡ At s → s .0 < end
-    below zero from h e = let z : _≡_ {A = ℕ} 0 1 = cc in absurd (omega arith)
-    below (suc k) from h e =
-        by-test (test from)
-        (λ t. let z : from ≡ s .0 = ap place (rw t at e) in omega arith)
-        (λ t. below k (from + 1) (omega arith) (rw t at e))
+sweep-shifted test matches ahead h from zero = refl
+sweep-shifted test matches ahead h from (suc k) =
+    let e : from + ahead + 1 ≡ from + 1 + ahead = omega arith in
+    let i = sweep-shifted test matches ahead h (from + 1) k in
+    by-test (matches from) (λ t. rw (h from, t)) (λ t. rw (h from, t, e) i)
+
+-- the outcome of a search of the fresh steps and one of the used
+abbrev pub judge : (ℕ → Bool) → Found → Found → Outcome
+judge tooFar (At a) used = accepting tooFar (a .0)
+judge tooFar Nowhere (At a) = Used
+judge tooFar Nowhere Nowhere = Wrong
+
+judged-found : (tooFar : ℕ → Bool) (ahead : ℕ) (fresh used : Option ℕ)
+    → settled tooFar ahead (judged fresh used) ≡ judge tooFar (foundOf (shifted ahead fresh)) (foundOf (shifted ahead used))
+judged-found tooFar ahead (some s) used = refl
+judged-found tooFar ahead none (some s) = refl
+judged-found tooFar ahead none none = refl
+
+module _ (tooFar hit matches test : ℕ → Bool) (first end next n ahead : ℕ) (room : end - ahead ≤ n)
+    (within : (s : ℕ) → hit s ≡ (leb first s && ltb s (end - ahead)) && matches s) (ahead-of : (s : ℕ) → test (s + ahead) ≡ matches s) where
+  fresh-shifted : shifted ahead (sweep matches (max first next) (end - ahead - max first next)) ≡ sweep test (max (first + ahead) (next + ahead)) (end - max (first + ahead) (next + ahead))
+  fresh-shifted =
+      let e : max (first + ahead) (next + ahead) ≡ max first next + ahead = omega arith in
+      let f : end - (max first next + ahead) ≡ end - ahead - max first next = omega arith in
+      rw (e, f) (sym (sweep-shifted test matches ahead ahead-of (max first next) (end - ahead - max first next)))
+
+  used-shifted : shifted ahead (sweep matches first (min (end - ahead) next - first)) ≡ sweep test (first + ahead) (min end (next + ahead) - (first + ahead))
+  used-shifted =
+      let e : min end (next + ahead) - (first + ahead) ≡ min (end - ahead) next - first = omega arith in
+      rw e (sym (sweep-shifted test matches ahead ahead-of first (min (end - ahead) next - first)))
+
+  pub check-searched : settled tooFar ahead (checked hit next n)
+      ≡ judge tooFar (foundOf (sweep test (max (first + ahead) (next + ahead)) (end - max (first + ahead) (next + ahead))))
+      (foundOf (sweep test (first + ahead) (min end (next + ahead) - (first + ahead))))
+  check-searched =
+      rw (range-searched hit matches first (end - ahead) next n room within, ← fresh-shifted, ← used-shifted)
+      (judged-found tooFar ahead (sweep matches (max first next) (end - ahead - max first next)) (sweep matches first (min (end - ahead) next - first)))

@@ -44,7 +44,7 @@ fn accept(track: Track, clock: Seconds, a: u64) -> Outcome
     Outcome::Accepted(Step(a))
 }
 
-// Fresh steps are searched first: if one matches, no used one counts. Of a pair, the last candidate has no next one.
+// Steps that could be accepted are searched, fresh ones first: if one matches, no used one counts. A pair is fresh if the step before is.
 fn searched(
     track: Track,
     clock: Seconds,
@@ -61,14 +61,32 @@ fn searched(
     let keys = prepare(track.rule.algorithm, key);
     let range = candidates(track, clock, size);
     let ahead = ahead_of(following);
-    let first = range.first.0;
-    let end = less(range.end.0, ahead);
-    let fresh = larger(first, track.next);
-    if let Found::At(s) = first_match(track.rule, key, &keys, challenge, presented, following, fresh, end) {
-        return accept(track, clock, s.0 + ahead);
+    let first = range.first.0 + ahead;
+    let end = range.end.0;
+    let fresh = larger(first, track.next + ahead);
+    if let Found::At(a) = first_match(
+        track.rule,
+        key,
+        &keys,
+        challenge,
+        presented,
+        following,
+        fresh,
+        end,
+    ) {
+        return accept(track, clock, a.0);
     }
-    let used_end = smaller(end, track.next);
-    match first_match(track.rule, key, &keys, challenge, presented, following, first, used_end) {
+    let used_end = smaller(end, track.next + ahead);
+    match first_match(
+        track.rule,
+        key,
+        &keys,
+        challenge,
+        presented,
+        following,
+        first,
+        used_end,
+    ) {
         Found::At(_) => Outcome::Used,
         Found::Nowhere => Outcome::Wrong,
     }

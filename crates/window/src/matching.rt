@@ -6,7 +6,7 @@ use otp::prepared::password_with;
 use words::bytes::same;
 ghost use mathlib.Core.Path.{_≡_};
 ghost use mathlib.Core.Bool.{true};
-ghost use Prim.Native.Nat.{_+_, _<_};
+ghost use Prim.Native.Nat.{_≤_};
 ghost use Rattle.otp.specs.ChainLaws.{prepared};
 ghost use Rattle.window.specs.PasswordAt.{timeOf, countOf, hasPassword};
 ghost use Rattle.window.specs.PasswordAtLaws.{inRange, StepOk, aheadOf, matchesAt};
@@ -62,14 +62,14 @@ fn has_password(
     same(presented, &out[0..n])
 }
 
-// How far the accepted step stands ahead of the one that matches: a pair's is the next one.
+// How far the accepted step stands ahead of the first that matches: a pair's is the next one.
 pub(crate) fn ahead_of(following: &[u8]) -> u64
     ensures { λ r. ⌜ r ≡ aheadOf (now (following .entry)) ⌝ }
 {
     if following.len() == 0 { 0 } else { 1 }
 }
 
-// Whether step s has the presented password and, of a pair, the next step the following one.
+// Whether step a is to be accepted: it has the presented password or, of a pair, the following one, and the step before it the presented one.
 pub(crate) fn matches_at(
     rule: Rule,
     key: &[u8],
@@ -77,19 +77,20 @@ pub(crate) fn matches_at(
     challenge: &[u8],
     presented: &[u8],
     following: &[u8],
-    s: u64,
+    a: u64,
 ) -> bool
     requires { ⌜ inRange rule (now key) (now challenge) ≡ true ⌝ }
     requires { ⌜ now keys ≡ prepared (rule .algorithm) (now key) ⌝ }
-    requires { ⌜ StepOk (rule .kind) (s + aheadOf (now following)) ⌝ }
-    requires { ⌜ s < 0xffff_ffff_ffff_ffff ⌝ }
-    ensures { λ r. ⌜ r ≡ matchesAt rule (now (key .entry)) (now (challenge .entry)) (now (presented .entry)) (now (following .entry)) s ⌝ }
+    requires { ⌜ StepOk (rule .kind) a ⌝ }
+    requires { ⌜ aheadOf (now following) ≤ a ⌝ }
+    ensures { λ r. ⌜ r ≡ matchesAt rule (now (key .entry)) (now (challenge .entry)) (now (presented .entry)) (now (following .entry)) a ⌝ }
 {
-    if !has_password(rule, key, keys, challenge, presented, s) {
+    let first = a - ahead_of(following);
+    if !has_password(rule, key, keys, challenge, presented, first) {
         return false;
     }
     if following.len() == 0 {
         return true;
     }
-    has_password(rule, key, keys, challenge, following, s + 1)
+    has_password(rule, key, keys, challenge, following, a)
 }

@@ -4,7 +4,7 @@ use crate::Step;
 use crate::matching::matches_at;
 ghost use mathlib.Core.Path.{_≡_};
 ghost use mathlib.Core.Bool.{true};
-ghost use Prim.Native.Nat.{_+_, _-_};
+ghost use Prim.Native.Nat.{_-_, _≤_};
 ghost use Rattle.otp.specs.ChainLaws.{prepared};
 ghost use Rattle.window.specs.PasswordAtLaws.{inRange, EndOk, aheadOf, matchesAt};
 ghost use Rattle.window.specs.CheckLaws.{sweep};
@@ -16,7 +16,7 @@ pub enum Found {
     Nowhere,
 }
 
-// The smallest step from first up to, not including, end that matches.
+// The smallest step from first up to, not including, end that is to be accepted.
 pub(crate) fn first_match(
     rule: Rule,
     key: &[u8],
@@ -29,7 +29,8 @@ pub(crate) fn first_match(
 ) -> Found
     requires { ⌜ inRange rule (now key) (now challenge) ≡ true ⌝ }
     requires { ⌜ now keys ≡ prepared (rule .algorithm) (now key) ⌝ }
-    requires { ⌜ EndOk (rule .kind) (end + aheadOf (now following)) ⌝ }
+    requires { ⌜ EndOk (rule .kind) end ⌝ }
+    requires { ⌜ aheadOf (now following) ≤ first ⌝ }
     ensures { λ r. ⌜ r ≡ foundOf (sweep (matchesAt rule (now (key .entry)) (now (challenge .entry)) (now (presented .entry)) (now (following .entry))) first (end - first)) ⌝ }
 {
     let mut s = first;
