@@ -22,7 +22,7 @@ use Rattle.capi.specs.declared.token.SizeRead.the-variants.{Is, Unknown}
 
 abbrev pub trackOf : ℕ → ℕ → ℕ → ℕ → ℕ → ℕ → Track
 trackOf kind algorithm digits period next offset =
-    record { rule = record { kind = kind; algorithm = algorithm; digits = digits }; period = period; next = next; offset = offset }
+    record { rule = record { kind = kind; algorithm = algorithm; digits = digits }; period = period; next = record { 0 = next }; offset = record { 0 = offset } }
 
 -- the header's numbers of the sizes
 abbrev pub sizeOf : ℕ → SizeRead

@@ -1,8 +1,10 @@
 // The check of a token's window, for callers who keep the token's numbers themselves.
+use window::Offset;
 use window::Outcome;
 use window::Rule;
 use window::Seconds;
 use window::Size;
+use window::Step;
 use window::Track;
 use window::check;
 use window::checkable;
@@ -84,8 +86,8 @@ pub extern "C" fn dl_check(
             digits,
         },
         period,
-        next,
-        offset,
+        next: Step(next),
+        offset: Offset(offset),
     };
     if !checkable(track, Seconds(clock), key, challenge) {
         return BAD_ARGUMENT;

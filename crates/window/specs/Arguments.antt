@@ -18,7 +18,7 @@ abbrev pub kindTest : Track → Bool
 kindTest k = (eqb (k .rule .kind) timeToken && ltb 0 (k .period)) || eqb (k .rule .kind) eventToken
 
 abbrev pub soundTest : Track → ℕ → Bool
-soundTest k clock = ((kindTest k && ltb clock (2 ^ 40)) && leb (k .next) (2 ^ 40 + farthest)) && leb (k .offset) (2 * farthest)
+soundTest k clock = ((kindTest k && ltb clock (2 ^ 40)) && leb (k .next .0) (2 ^ 40 + farthest)) && leb (k .offset .0) (2 * farthest)
 
 abbrev pub checkable : Track → ℕ → List ℕ → List ℕ → Bool
 checkable k clock key challenge = soundTest k clock && inRange (k .rule) key challenge
@@ -32,11 +32,11 @@ kind-divides k t e = ltb-true 0 (k .period) (period (ltb 0 (k .period)) (rw e at
 
 pub test-sound : (k : Track) (clock : ℕ) → soundTest k clock ≡ true → Sound k clock
 test-sound k clock t =
-    let ranged = and-left ((kindTest k && ltb clock (2 ^ 40)) && leb (k .next) (2 ^ 40 + farthest)) (leb (k .offset) (2 * farthest)) t in
-    let timed = and-left (kindTest k && ltb clock (2 ^ 40)) (leb (k .next) (2 ^ 40 + farthest)) ranged in
+    let ranged = and-left ((kindTest k && ltb clock (2 ^ 40)) && leb (k .next .0) (2 ^ 40 + farthest)) (leb (k .offset .0) (2 * farthest)) t in
+    let timed = and-left (kindTest k && ltb clock (2 ^ 40)) (leb (k .next .0) (2 ^ 40 + farthest)) ranged in
     record {
       divided = kind-divides k (and-left (kindTest k) (ltb clock (2 ^ 40)) timed);
       timely = ltb-true clock (2 ^ 40) (and-right (kindTest k) (ltb clock (2 ^ 40)) timed);
-      counted = leb-true (k .next) (2 ^ 40 + farthest) (and-right (kindTest k && ltb clock (2 ^ 40)) (leb (k .next) (2 ^ 40 + farthest)) ranged);
-      within = leb-true (k .offset) (2 * farthest) (and-right ((kindTest k && ltb clock (2 ^ 40)) && leb (k .next) (2 ^ 40 + farthest)) (leb (k .offset) (2 * farthest)) t);
+      counted = leb-true (k .next .0) (2 ^ 40 + farthest) (and-right (kindTest k && ltb clock (2 ^ 40)) (leb (k .next .0) (2 ^ 40 + farthest)) ranged);
+      within = leb-true (k .offset .0) (2 * farthest) (and-right ((kindTest k && ltb clock (2 ^ 40)) && leb (k .next .0) (2 ^ 40 + farthest)) (leb (k .offset .0) (2 * farthest)) t);
     }

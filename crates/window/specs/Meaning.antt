@@ -132,12 +132,12 @@ module _ (k : Track) (clock : ℕ) (size : Size) where
   candidate-near s t = pick (eqb (k .rule .kind) timeToken) t
     where
       pick : (b : Bool)
-          → cond b (timeCandidate (stepAt clock (k .period)) (k .offset) (timeWidth size) s) (eventCandidate (k .next) (eventWidth size) s) ≡ true
+          → cond b (timeCandidate (stepAt clock (k .period)) (k .offset .0) (timeWidth size) s) (eventCandidate (k .next .0) (eventWidth size) s) ≡ true
           → b && ltb farthest (distance s (stepAt clock (k .period))) ≡ false
       pick true t =
           le-ltb farthest (distance s (stepAt clock (k .period)))
           (leb-true (distance s (stepAt clock (k .period))) farthest
-          (and-right (leb (distance (s + farthest) (stepAt clock (k .period) + k .offset)) (timeWidth size)) (leb (distance s (stepAt clock (k .period))) farthest) t))
+          (and-right (leb (distance (s + farthest) (stepAt clock (k .period) + k .offset .0)) (timeWidth size)) (leb (distance s (stepAt clock (k .period))) farthest) t))
       pick false t = refl
 
   module _ (matches : ℕ → Bool) where
@@ -147,21 +147,21 @@ module _ (k : Track) (clock : ℕ) (size : Size) where
     single-near : (s : ℕ) → singleHit (candidate k clock size) matches s ≡ true → tooFar k clock (s + 0) ≡ false
     single-near s t = rw (add-zero s) (candidate-near s (and-left (candidate k clock size s) (matches s) t))
 
-    pub single-accepted-exactly : ((a : Step) → singleCheck k clock size matches ≡ Accepted a → First (freshHit (singleHit (candidate k clock size) matches) (k .next)) (a .0))
-        × ((s : ℕ) → First (freshHit (singleHit (candidate k clock size) matches) (k .next)) s → singleCheck k clock size matches ≡ Accepted (record { 0 = s }))
+    pub single-accepted-exactly : ((a : Step) → singleCheck k clock size matches ≡ Accepted a → First (freshHit (singleHit (candidate k clock size) matches) (k .next .0)) (a .0))
+        × ((s : ℕ) → First (freshHit (singleHit (candidate k clock size) matches) (k .next .0)) s → singleCheck k clock size matches ≡ Accepted (record { 0 = s }))
     unfolding singleCheck
     single-accepted-exactly =
-        let law = accepted-exactly (tooFar k clock) (singleHit (candidate k clock size) matches) 0 (k .next) (beyond k clock) single-bounded single-near in
+        let law = accepted-exactly (tooFar k clock) (singleHit (candidate k clock size) matches) 0 (k .next .0) (beyond k clock) single-bounded single-near in
         (λ a e. let l = law .0 a e in let z : a .0 ≡ l .0 = l .1 .0 ∙ add-zero (l .0) in rw z (l .1 .1), λ s f. law .1 s f ∙ rw (add-zero s))
 
-    pub single-used-exactly : (singleCheck k clock size matches ≡ Used → Never (freshHit (singleHit (candidate k clock size) matches) (k .next)) × ((s : ℕ) × (usedHit (singleHit (candidate k clock size) matches) (k .next) s ≡ true)))
-        × (Never (freshHit (singleHit (candidate k clock size) matches) (k .next)) → (s : ℕ) → usedHit (singleHit (candidate k clock size) matches) (k .next) s ≡ true → singleCheck k clock size matches ≡ Used)
+    pub single-used-exactly : (singleCheck k clock size matches ≡ Used → Never (freshHit (singleHit (candidate k clock size) matches) (k .next .0)) × ((s : ℕ) × (usedHit (singleHit (candidate k clock size) matches) (k .next .0) s ≡ true)))
+        × (Never (freshHit (singleHit (candidate k clock size) matches) (k .next .0)) → (s : ℕ) → usedHit (singleHit (candidate k clock size) matches) (k .next .0) s ≡ true → singleCheck k clock size matches ≡ Used)
     unfolding singleCheck
-    single-used-exactly = used-exactly (tooFar k clock) (singleHit (candidate k clock size) matches) 0 (k .next) (beyond k clock) single-bounded single-near
+    single-used-exactly = used-exactly (tooFar k clock) (singleHit (candidate k clock size) matches) 0 (k .next .0) (beyond k clock) single-bounded single-near
 
     pub single-wrong-exactly : (singleCheck k clock size matches ≡ Wrong → Never (singleHit (candidate k clock size) matches)) × (Never (singleHit (candidate k clock size) matches) → singleCheck k clock size matches ≡ Wrong)
     unfolding singleCheck
-    single-wrong-exactly = wrong-exactly (tooFar k clock) (singleHit (candidate k clock size) matches) 0 (k .next) (beyond k clock) single-bounded single-near
+    single-wrong-exactly = wrong-exactly (tooFar k clock) (singleHit (candidate k clock size) matches) 0 (k .next .0) (beyond k clock) single-bounded single-near
 
   module _ (first second : ℕ → Bool) where
     both-candidates : (s : ℕ) → pairHit (candidate k clock size) first second s ≡ true → (candidate k clock size s ≡ true) × (candidate k clock size (s + 1) ≡ true)
@@ -176,16 +176,16 @@ module _ (k : Track) (clock : ℕ) (size : Size) where
     pair-near s t = candidate-near (s + 1) (both-candidates s t .1)
 
     -- the accepted step of a pair is the one after the smallest fresh step at which the pair matches
-    pub pair-accepted-exactly : ((a : Step) → pairCheck k clock size first second ≡ Accepted a → (s : ℕ) × ((a .0 ≡ s + 1) × First (freshHit (pairHit (candidate k clock size) first second) (k .next)) s))
-        × ((s : ℕ) → First (freshHit (pairHit (candidate k clock size) first second) (k .next)) s → pairCheck k clock size first second ≡ Accepted (record { 0 = s + 1 }))
+    pub pair-accepted-exactly : ((a : Step) → pairCheck k clock size first second ≡ Accepted a → (s : ℕ) × ((a .0 ≡ s + 1) × First (freshHit (pairHit (candidate k clock size) first second) (k .next .0)) s))
+        × ((s : ℕ) → First (freshHit (pairHit (candidate k clock size) first second) (k .next .0)) s → pairCheck k clock size first second ≡ Accepted (record { 0 = s + 1 }))
     unfolding pairCheck
-    pair-accepted-exactly = accepted-exactly (tooFar k clock) (pairHit (candidate k clock size) first second) 1 (k .next) (beyond k clock) pair-bounded pair-near
+    pair-accepted-exactly = accepted-exactly (tooFar k clock) (pairHit (candidate k clock size) first second) 1 (k .next .0) (beyond k clock) pair-bounded pair-near
 
-    pub pair-used-exactly : (pairCheck k clock size first second ≡ Used → Never (freshHit (pairHit (candidate k clock size) first second) (k .next)) × ((s : ℕ) × (usedHit (pairHit (candidate k clock size) first second) (k .next) s ≡ true)))
-        × (Never (freshHit (pairHit (candidate k clock size) first second) (k .next)) → (s : ℕ) → usedHit (pairHit (candidate k clock size) first second) (k .next) s ≡ true → pairCheck k clock size first second ≡ Used)
+    pub pair-used-exactly : (pairCheck k clock size first second ≡ Used → Never (freshHit (pairHit (candidate k clock size) first second) (k .next .0)) × ((s : ℕ) × (usedHit (pairHit (candidate k clock size) first second) (k .next .0) s ≡ true)))
+        × (Never (freshHit (pairHit (candidate k clock size) first second) (k .next .0)) → (s : ℕ) → usedHit (pairHit (candidate k clock size) first second) (k .next .0) s ≡ true → pairCheck k clock size first second ≡ Used)
     unfolding pairCheck
-    pair-used-exactly = used-exactly (tooFar k clock) (pairHit (candidate k clock size) first second) 1 (k .next) (beyond k clock) pair-bounded pair-near
+    pair-used-exactly = used-exactly (tooFar k clock) (pairHit (candidate k clock size) first second) 1 (k .next .0) (beyond k clock) pair-bounded pair-near
 
     pub pair-wrong-exactly : (pairCheck k clock size first second ≡ Wrong → Never (pairHit (candidate k clock size) first second)) × (Never (pairHit (candidate k clock size) first second) → pairCheck k clock size first second ≡ Wrong)
     unfolding pairCheck
-    pair-wrong-exactly = wrong-exactly (tooFar k clock) (pairHit (candidate k clock size) first second) 1 (k .next) (beyond k clock) pair-bounded pair-near
+    pair-wrong-exactly = wrong-exactly (tooFar k clock) (pairHit (candidate k clock size) first second) 1 (k .next .0) (beyond k clock) pair-bounded pair-near

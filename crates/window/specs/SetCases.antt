@@ -42,10 +42,10 @@ text5678 = 0x35 ∷ 0x36 ∷ 0x37 ∷ 0x38 ∷ []
 
 -- tokens of the cases: a period and d + 600, or a first unused step
 abbrev pub timeTrack : ℕ → ℕ → Track
-timeTrack period offset = record { rule = record { kind = 0; algorithm = 3; digits = 6 }; period = period; next = 0; offset = offset }
+timeTrack period offset = record { rule = record { kind = 0; algorithm = 3; digits = 6 }; period = period; next = record { 0 = 0 }; offset = record { 0 = offset } }
 
 abbrev pub eventTrack : ℕ → Track
-eventTrack next = record { rule = record { kind = 1; algorithm = 3; digits = 6 }; period = 0; next = next; offset = 600 }
+eventTrack next = record { rule = record { kind = 1; algorithm = 3; digits = 6 }; period = 0; next = record { 0 = next }; offset = record { 0 = 600 } }
 
 -- the candidates among `count` steps, from a step on; `candidates-are-range` says that there are no gaps
 unfoldable pub candidatesFrom : ℕ → ℕ → Track → ℕ → Size → List ℕ

@@ -15,10 +15,10 @@ unfoldable pub tooFar : Track → ℕ → ℕ → Bool
 tooFar k clock a = eqb (k .rule .kind) timeToken && ltb farthest (distance a (stepAt clock (k .period)))
 
 unfoldable pub singleCheck : Track → ℕ → Size → (ℕ → Bool) → Outcome
-singleCheck k clock size matches = settled (tooFar k clock) 0 (checked (singleHit (candidate k clock size) matches) (k .next) (beyond k clock))
+singleCheck k clock size matches = settled (tooFar k clock) 0 (checked (singleHit (candidate k clock size) matches) (k .next .0) (beyond k clock))
 
 unfoldable pub pairCheck : Track → ℕ → Size → (ℕ → Bool) → (ℕ → Bool) → Outcome
-pairCheck k clock size first second = settled (tooFar k clock) 1 (checked (pairHit (candidate k clock size) first second) (k .next) (beyond k clock))
+pairCheck k clock size first second = settled (tooFar k clock) 1 (checked (pairHit (candidate k clock size) first second) (k .next .0) (beyond k clock))
 
 -- one presented password is checked alone, and two as a pair; an empty second one is none
 unfoldable pub checkOf : Track → ℕ → Size → List ℕ → List ℕ → List ℕ → List ℕ → Outcome

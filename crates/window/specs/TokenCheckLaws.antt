@@ -31,15 +31,15 @@ pub end-fits : (k : Track) (clock : ℕ) (size : Size) {end : ℕ} → end ≡ e
 unfolding beyond
 end-fits k clock size e h = rw e (rw h at (end-below k clock size))
 
-pub used-end-fits : (k : Track) (end ahead : ℕ) {used : ℕ} → used ≡ min end (k .next + ahead) → EndOk (k .rule .kind) end → EndOk (k .rule .kind) used
-used-end-fits k end ahead e ok h = rw e (le-trans (min-le-left end (k .next + ahead)) (ok h))
+pub used-end-fits : (k : Track) (end ahead : ℕ) {used : ℕ} → used ≡ min end (k .next .0 + ahead) → EndOk (k .rule .kind) end → EndOk (k .rule .kind) used
+used-end-fits k end ahead e ok h = rw e (le-trans (min-le-left end (k .next .0 + ahead)) (ok h))
 
 -- no step of a window comes near 2^64
 pub first-fits : (k : Track) (clock : ℕ) (size : Size) → Sound k clock → firstStep k clock size ≤ 2 ^ 41
 unfolding firstStep
 first-fits k clock size good = pick (eqb (k .rule .kind) timeToken)
   where
-    pick : (b : Bool) → cond b (timeFirst (stepAt clock (k .period)) (k .offset) (timeWidth size)) (eventFirst (k .next)) ≤ 2 ^ 41
+    pick : (b : Bool) → cond b (timeFirst (stepAt clock (k .period)) (k .offset .0) (timeWidth size)) (eventFirst (k .next .0)) ≤ 2 ^ 41
     pick true = omega (arith, good .timely, good .within, div-le-self clock (k .period))
     pick false = omega (arith, good .counted)
 
@@ -50,8 +50,8 @@ module _ (k : Track) (clock : ℕ) (size : Size) (key challenge presented : List
   abbrev searches : (ℕ → Bool) → ℕ → Outcome
   searches test ahead =
       judge (tooFar k clock)
-      (foundOf (sweep test (max (firstStep k clock size + ahead) (k .next + ahead)) (endStep k clock size - max (firstStep k clock size + ahead) (k .next + ahead))))
-      (foundOf (sweep test (firstStep k clock size + ahead) (min (endStep k clock size) (k .next + ahead) - (firstStep k clock size + ahead))))
+      (foundOf (sweep test (max (firstStep k clock size + ahead) (k .next .0 + ahead)) (endStep k clock size - max (firstStep k clock size + ahead) (k .next .0 + ahead))))
+      (foundOf (sweep test (firstStep k clock size + ahead) (min (endStep k clock size) (k .next .0 + ahead) - (firstStep k clock size + ahead))))
 
   token-searched : (following : List ℕ)
       → checkOf k clock size key challenge presented following ≡ searches (matchesAt (k .rule) key challenge presented following) (aheadOf following)
@@ -59,32 +59,32 @@ module _ (k : Track) (clock : ℕ) (size : Size) (key challenge presented : List
   token-searched [] =
       let room = end-below k clock size in
       check-searched (tooFar k clock) (singleHit (candidate k clock size) (hasPassword (k .rule) key challenge presented)) (hasPassword (k .rule) key challenge presented)
-      (matchesAt (k .rule) key challenge presented []) (firstStep k clock size) (endStep k clock size) (k .next) (beyond k clock) 0 (omega arith)
+      (matchesAt (k .rule) key challenge presented []) (firstStep k clock size) (endStep k clock size) (k .next .0) (beyond k clock) 0 (omega arith)
       (λ s. rw (sub-zero (endStep k clock size), candidates-are-range k clock size s)) (λ s. rw (add-zero s))
   token-searched (b ∷ following) =
       let room = end-below k clock size in
       check-searched (tooFar k clock) (pairHit (candidate k clock size) (hasPassword (k .rule) key challenge presented) (hasPassword (k .rule) key challenge (b ∷ following)))
       (λ s. hasPassword (k .rule) key challenge presented s && hasPassword (k .rule) key challenge (b ∷ following) (s + 1))
-      (matchesAt (k .rule) key challenge presented (b ∷ following)) (firstStep k clock size) (endStep k clock size) (k .next) (beyond k clock) 1 (omega arith)
+      (matchesAt (k .rule) key challenge presented (b ∷ following)) (firstStep k clock size) (endStep k clock size) (k .next .0) (beyond k clock) 1 (omega arith)
       (λ s. rw (candidates-are-range k clock size s, candidates-are-range k clock size (s + 1), both-in-range (firstStep k clock size) (endStep k clock size) s))
       (λ s. let e : s + 1 - 1 ≡ s = omega arith in rw e)
 
 module _ (k : Track) (clock : ℕ) (size : Size) (key challenge presented following : List ℕ) {first end fresh ahead : ℕ} {f : Found}
-    (h : ahead ≡ aheadOf following) (a : first ≡ firstStep k clock size) (b : end ≡ endStep k clock size) (m : fresh ≡ max (first + ahead) (k .next + ahead))
+    (h : ahead ≡ aheadOf following) (a : first ≡ firstStep k clock size) (b : end ≡ endStep k clock size) (m : fresh ≡ max (first + ahead) (k .next .0 + ahead))
     (e : f ≡ foundOf (sweep (matchesAt (k .rule) key challenge presented following) fresh (end - fresh))) where
   judged-check : checkOf k clock size key challenge presented following
-      ≡ judge (tooFar k clock) f (foundOf (sweep (matchesAt (k .rule) key challenge presented following) (first + ahead) (min end (k .next + ahead) - (first + ahead))))
+      ≡ judge (tooFar k clock) f (foundOf (sweep (matchesAt (k .rule) key challenge presented following) (first + ahead) (min end (k .next .0 + ahead) - (first + ahead))))
   judged-check = rw (e, m, b, a, h) (token-searched k clock size key challenge presented following)
 
   pub check-accepts : {s : Step} {r : Outcome} → f ≡ At s → r ≡ accepting (tooFar k clock) (s .0) → r ≡ checkOf k clock size key challenge presented following
   check-accepts {s} i p =
-      p ∙ sym (judged-check ∙ ap (λ (x : Found). judge (tooFar k clock) x (foundOf (sweep (matchesAt (k .rule) key challenge presented following) (first + ahead) (min end (k .next + ahead) - (first + ahead))))) i)
+      p ∙ sym (judged-check ∙ ap (λ (x : Found). judge (tooFar k clock) x (foundOf (sweep (matchesAt (k .rule) key challenge presented following) (first + ahead) (min end (k .next .0 + ahead) - (first + ahead))))) i)
 
-  module _ {used : ℕ} {g : Found} (i : f ≡ Nowhere) (n : used ≡ min end (k .next + ahead))
+  module _ {used : ℕ} {g : Found} (i : f ≡ Nowhere) (n : used ≡ min end (k .next .0 + ahead))
       (u : g ≡ foundOf (sweep (matchesAt (k .rule) key challenge presented following) (first + ahead) (used - (first + ahead)))) where
     judged-used : checkOf k clock size key challenge presented following ≡ judge (tooFar k clock) Nowhere g
     judged-used =
-        let v : foundOf (sweep (matchesAt (k .rule) key challenge presented following) (first + ahead) (min end (k .next + ahead) - (first + ahead))) ≡ g = rw (← n) (sym u) in
+        let v : foundOf (sweep (matchesAt (k .rule) key challenge presented following) (first + ahead) (min end (k .next .0 + ahead) - (first + ahead))) ≡ g = rw (← n) (sym u) in
         judged-check ∙ ap₂ (judge (tooFar k clock)) i v
 
     pub check-used : {s : Step} → g ≡ At s → Used ≡ checkOf k clock size key challenge presented following

@@ -46,8 +46,8 @@ eventCandidate next w s = (leb next (s + 1) && ltb s (next + w)) && ltb s (2 ^ 3
 unfoldable pub candidate : Track → ℕ → Size → ℕ → Bool
 candidate k clock size s =
     cond (eqb (k .rule .kind) timeToken)
-    (timeCandidate (stepAt clock (k .period)) (k .offset) (timeWidth size) s)
-    (eventCandidate (k .next) (eventWidth size) s)
+    (timeCandidate (stepAt clock (k .period)) (k .offset .0) (timeWidth size) s)
+    (eventCandidate (k .next .0) (eventWidth size) s)
 
 -- every candidate lies below this step
 unfoldable pub beyond : Track → ℕ → ℕ
@@ -57,5 +57,5 @@ beyond k clock = cond (eqb (k .rule .kind) timeToken) (stepAt clock (k .period) 
 pub record Sound (k : Track) (clock : ℕ) : Type 0 where
   pub divided : k .rule .kind ≡ timeToken → 0 < k .period
   pub timely : clock < 2 ^ 40
-  pub counted : k .next ≤ 2 ^ 40 + farthest
-  pub within : k .offset ≤ 2 * farthest
+  pub counted : k .next .0 ≤ 2 ^ 40 + farthest
+  pub within : k .offset .0 ≤ 2 * farthest

@@ -26,11 +26,11 @@ eventEnd next w = min (next + w) (2 ^ 32)
 
 unfoldable pub firstStep : Track → ℕ → Size → ℕ
 firstStep k clock size =
-    cond (eqb (k .rule .kind) timeToken) (timeFirst (stepAt clock (k .period)) (k .offset) (timeWidth size)) (eventFirst (k .next))
+    cond (eqb (k .rule .kind) timeToken) (timeFirst (stepAt clock (k .period)) (k .offset .0) (timeWidth size)) (eventFirst (k .next .0))
 
 unfoldable pub endStep : Track → ℕ → Size → ℕ
 endStep k clock size =
-    cond (eqb (k .rule .kind) timeToken) (timeEnd (stepAt clock (k .period)) (k .offset) (timeWidth size)) (eventEnd (k .next) (eventWidth size))
+    cond (eqb (k .rule .kind) timeToken) (timeEnd (stepAt clock (k .period)) (k .offset .0) (timeWidth size)) (eventEnd (k .next .0) (eventWidth size))
 
 -- two tests agree where each follows from the other
 pub agree : (a b : Bool) → (a ≡ true → b ≡ true) → (b ≡ true → a ≡ true) → a ≡ b
@@ -108,11 +108,11 @@ unfolding candidate firstStep endStep
 candidates-are-range k clock size s = pick (eqb (k .rule .kind) timeToken)
   where
     pick : (b : Bool)
-        → cond b (timeCandidate (stepAt clock (k .period)) (k .offset) (timeWidth size) s) (eventCandidate (k .next) (eventWidth size) s)
-        ≡ leb (cond b (timeFirst (stepAt clock (k .period)) (k .offset) (timeWidth size)) (eventFirst (k .next))) s
-        && ltb s (cond b (timeEnd (stepAt clock (k .period)) (k .offset) (timeWidth size)) (eventEnd (k .next) (eventWidth size)))
-    pick true = time-range (stepAt clock (k .period)) (k .offset) (timeWidth size) s
-    pick false = event-range (k .next) (eventWidth size) s
+        → cond b (timeCandidate (stepAt clock (k .period)) (k .offset .0) (timeWidth size) s) (eventCandidate (k .next .0) (eventWidth size) s)
+        ≡ leb (cond b (timeFirst (stepAt clock (k .period)) (k .offset .0) (timeWidth size)) (eventFirst (k .next .0))) s
+        && ltb s (cond b (timeEnd (stepAt clock (k .period)) (k .offset .0) (timeWidth size)) (eventEnd (k .next .0) (eventWidth size)))
+    pick true = time-range (stepAt clock (k .period)) (k .offset .0) (timeWidth size) s
+    pick false = event-range (k .next .0) (eventWidth size) s
 
 -- no candidate lies at or above `beyond`
 pub end-below : (k : Track) (clock : ℕ) (size : Size) → endStep k clock size ≤ beyond k clock
@@ -120,7 +120,7 @@ unfolding endStep beyond
 end-below k clock size = pick (eqb (k .rule .kind) timeToken)
   where
     pick : (b : Bool)
-        → cond b (timeEnd (stepAt clock (k .period)) (k .offset) (timeWidth size)) (eventEnd (k .next) (eventWidth size))
+        → cond b (timeEnd (stepAt clock (k .period)) (k .offset .0) (timeWidth size)) (eventEnd (k .next .0) (eventWidth size))
         ≤ cond b (stepAt clock (k .period) + farthest + 1) (2 ^ 32)
     pick true = omega arith
     pick false = omega arith

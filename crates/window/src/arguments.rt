@@ -20,8 +20,8 @@ fn sound(track: Track, clock: Seconds) -> bool
     let timed = (track.rule.kind == TIME_TOKEN) & (0 < track.period);
     (timed | (track.rule.kind == EVENT_TOKEN))
         & (clock.0 < CLOCKS)
-        & (track.next <= CLOCKS + FARTHEST)
-        & (track.offset as u64 <= 2 * FARTHEST)
+        & (track.next.0 <= CLOCKS + FARTHEST)
+        & (track.offset.0 as u64 <= 2 * FARTHEST)
 }
 
 fn in_range(rule: Rule, key: &[u8], challenge: &[u8]) -> bool

@@ -63,7 +63,7 @@ fn searched(
     let ahead = ahead_of(following);
     let first = range.first.0 + ahead;
     let end = range.end.0;
-    let fresh = larger(first, track.next + ahead);
+    let fresh = larger(first, track.next.0 + ahead);
     if let Found::At(a) = first_match(
         track.rule,
         key,
@@ -76,7 +76,7 @@ fn searched(
     ) {
         return accept(track, clock, a.0);
     }
-    let used_end = smaller(end, track.next + ahead);
+    let used_end = smaller(end, track.next.0 + ahead);
     match first_match(
         track.rule,
         key,

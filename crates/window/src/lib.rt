@@ -21,6 +21,9 @@ pub struct Seconds(pub u64);
 // A step: a count of periods or of events.
 pub struct Step(pub u64);
 
+// A time token's offset d, from -600 to 600, held as d + 600 as in the row (document 01, Part 4).
+pub struct Offset(pub u16);
+
 // The size of a window.
 pub enum Size {
     Small,
@@ -35,12 +38,12 @@ pub struct Rule {
     pub digits: u8,
 }
 
-// What a check needs of a token: the rule of its passwords, the period in seconds, the first unused step, and d + 600.
+// What a check needs of a token: the rule of its passwords, the period in seconds, the first unused step, and the offset.
 pub struct Track {
     pub rule: Rule,
     pub period: u8,
-    pub next: u64,
-    pub offset: u16,
+    pub next: Step,
+    pub offset: Offset,
 }
 
 // What a check finds: the accepted step, a match that would set d past 600 either way, or a password that was used or is wrong.

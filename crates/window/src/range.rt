@@ -106,7 +106,7 @@ pub fn candidates(track: Track, clock: Seconds, size: Size) -> Range
 {
     if track.rule.kind == TIME_TOKEN {
         let t = step_at(clock, track.period);
-        return time_range(t, track.offset as u64, time_width(size));
+        return time_range(t, track.offset.0 as u64, time_width(size));
     }
-    event_range(track.next, event_width(size))
+    event_range(track.next.0, event_width(size))
 }
