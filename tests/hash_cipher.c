@@ -6,8 +6,6 @@
 
 #include <openssl/evp.h>
 
-static size_t cases = 20000;
-
 enum { MOST_LENGTH = 40, MOST_OUT = 20 };
 
 // ---- the other program
@@ -300,8 +298,5 @@ static const struct test tests[] = {
 
 int main(int argc, char **argv)
 {
-    int full_run = argc < 2;
-    if (!full_run)
-        cases = strtoul(argv[1], NULL, 10);
-    return run_tests(tests, sizeof tests / sizeof *tests, full_run);
+    return run_tests(tests, sizeof tests / sizeof *tests, 20000, argc, argv);
 }

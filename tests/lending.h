@@ -7,17 +7,19 @@
 
 #include <sys/mman.h>
 
-enum { BEFORE = 16, ROOM = 512, WORD = 4 };
+enum { BEFORE = 16, ROOM = 512, WORD = 4, LONG_WORD = 8 };
 
 // The lent output starts BEFORE bytes into `now`, so that a write on either side of it shows.
 static union {
     uint8_t bytes[ROOM];
     uint32_t words[ROOM / WORD];
+    uint64_t long_words[ROOM / LONG_WORD];
 } now;
 static uint8_t was[ROOM];
 
 static uint8_t *const lent = now.bytes + BEFORE;
 static uint32_t *const lent_words = now.words + BEFORE / WORD;
+static uint64_t *const lent_long_words = now.long_words + BEFORE / LONG_WORD;
 
 static inline void lend(void)
 {
@@ -33,10 +35,15 @@ static inline int gave(uint16_t code, const void *result, size_t n)
         && memcmp(now.bytes + end, was + end, ROOM - end) == 0;
 }
 
-// The call answered DL_BAD_ARGUMENT and wrote nothing.
+// The call answered this code, which is no DL_DONE, and wrote nothing.
+static inline int turned_down(uint16_t code, uint16_t expected)
+{
+    return code == expected && memcmp(now.bytes, was, ROOM) == 0;
+}
+
 static inline int refused(uint16_t code)
 {
-    return code == DL_BAD_ARGUMENT && memcmp(now.bytes, was, ROOM) == 0;
+    return turned_down(code, DL_BAD_ARGUMENT);
 }
 
 // Zeros that take no memory until they are written to.

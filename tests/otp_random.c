@@ -11,11 +11,6 @@ struct line {
     char key[80], time[32], count[32], challenge[48], algorithm[8], digits[8], behind[8];
 };
 
-static int one_in(size_t n)
-{
-    return random_below(n) == 0;
-}
-
 // ---- valid lines
 
 static char random_hex_digit(void)

@@ -7,8 +7,6 @@
 
 enum { LENGTHS = 41, BYTES = 256 };
 
-static size_t cases = 20000;
-
 // The arguments of one call; the lent output has out_len bytes.
 struct call {
     uint8_t algorithm, has_time, has_count, digits;
@@ -20,21 +18,15 @@ struct call {
 
 // ---- calls and their comparison
 
-static uint8_t random_between(uint8_t least, uint8_t most)
-{
-    return (uint8_t)(least + random_below((size_t)most - least + 1));
-}
-
 static uint8_t absent_or_present(void)
 {
-    return random_below(2) == 0 ? 0 : random_between(1, 255);
+    return one_in(2) ? 0 : random_between(1, 255);
 }
 
 static void make_challenge(struct call *call, size_t n)
 {
     call->challenge_len = n;
-    for (size_t i = 0; i < n; i++)
-        call->challenge[i] = random_between(0x21, 0x7e);
+    random_bytes_between(call->challenge, n, 0x21, 0x7e);
 }
 
 // Any call that has a password.
@@ -48,16 +40,14 @@ static void make_call(struct call *call)
     call->count = (uint32_t)random_number() >> random_below(32);
     call->key_len = random_between(16, 32);
     random_bytes(call->key, sizeof call->key);
-    make_challenge(call, random_below(2) == 0 ? 0 : random_between(4, 32));
+    make_challenge(call, one_in(2) ? 0 : random_between(4, 32));
     call->out_len = call->digits + random_below(100);
 }
 
 // Key and challenge in buffers of their own length, so that valgrind sees a read past them.
 static uint16_t run(const struct call *call)
 {
-    uint8_t *key = allocate(call->key_len), *challenge = allocate(call->challenge_len);
-    memcpy(key, call->key, call->key_len);
-    memcpy(challenge, call->challenge, call->challenge_len);
+    uint8_t *key = copy_of(call->key, call->key_len), *challenge = copy_of(call->challenge, call->challenge_len);
     lend();
     uint16_t code = dl_password(call->algorithm, key, call->key_len, call->has_time, call->time, call->has_count,
                                 call->count, challenge, call->challenge_len, call->digits, lent, call->out_len);
@@ -291,8 +281,5 @@ static const struct test tests[] = {
 
 int main(int argc, char **argv)
 {
-    int full_run = argc < 2;
-    if (!full_run)
-        cases = strtoul(argv[1], NULL, 10);
-    return run_tests(tests, sizeof tests / sizeof *tests, full_run);
+    return run_tests(tests, sizeof tests / sizeof *tests, 20000, argc, argv);
 }

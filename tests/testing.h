@@ -22,6 +22,10 @@ struct test {
 static uint64_t random_state = SEED;
 static long comparisons, differences;
 
+// The random cases to a test. The short run, for valgrind, has fewer.
+static size_t cases;
+static int full_run;
+
 // The next number of splitmix64.
 static inline uint64_t random_number(void)
 {
@@ -36,6 +40,16 @@ static inline size_t random_below(size_t bound)
     return random_number() % bound;
 }
 
+static inline uint8_t random_between(uint8_t least, uint8_t most)
+{
+    return (uint8_t)(least + random_below((size_t)most - least + 1));
+}
+
+static inline int one_in(size_t n)
+{
+    return random_below(n) == 0;
+}
+
 static inline void random_bytes(void *to, size_t n)
 {
     uint8_t *byte = to;
@@ -43,6 +57,12 @@ static inline void random_bytes(void *to, size_t n)
         uint64_t x = random_number();
         memcpy(byte + i, &x, n - i < 8 ? n - i : 8);
     }
+}
+
+static inline void random_bytes_between(uint8_t *to, size_t n, uint8_t least, uint8_t most)
+{
+    for (size_t i = 0; i < n; i++)
+        to[i] = random_between(least, most);
 }
 
 static inline _Noreturn void die(const char *why)
@@ -58,6 +78,12 @@ static inline void *allocate(size_t n)
     if (room == NULL)
         die("no memory");
     return room;
+}
+
+// A copy in exactly n bytes.
+static inline void *copy_of(const void *bytes, size_t n)
+{
+    return memcpy(allocate(n), bytes, n);
 }
 
 // Counts one comparison, and describes the first of a test that differs.
@@ -87,10 +113,13 @@ static inline int passes(const struct test *test)
     return good;
 }
 
-// Runs the tests, prints 'N passed, M failed' as the last line and gives the program's exit status.
-static inline int run_tests(const struct test *tests, size_t n, int full_run)
+// Runs the tests in full or, given an argument, with that many cases. Prints 'N passed, M failed' as the last line and gives the
+// program's exit status.
+static inline int run_tests(const struct test *tests, size_t n, size_t full_cases, int argc, char **argv)
 {
     int passed = 0, failed = 0;
+    full_run = argc < 2;
+    cases = full_run ? full_cases : strtoul(argv[1], NULL, 10);
     setvbuf(stdout, NULL, _IOLBF, 0);
     printf("seed %" PRIu64 "\n", SEED);
     for (size_t i = 0; i < n; i++) {

@@ -1,0 +1,143 @@
+// The check of document 01, Part 3, over the password of otp_reference.h, written from the document alone: each step of a wide stretch
+// is held against the document's own inequalities.
+#ifndef WINDOW_REFERENCE_H
+#define WINDOW_REFERENCE_H
+
+#include "dykeladder.h"
+#include "otp_reference.h"
+
+enum {
+    WINDOW_LENGTHS = 300, // of key, challenge and password, those that are too long included
+    WINDOW_FARTHEST = 600, // from the clock's step, and the document's d, either way
+    WINDOW_STRETCH = 700, // no candidate is so far from the clock's step or from next
+};
+
+#define CLOCK_END (INT64_C(1) << 40)
+#define COUNT_END (INT64_C(1) << 32)
+
+// A password as it is typed in, right or not.
+struct window_typed {
+    uint8_t bytes[WINDOW_LENGTHS];
+    size_t len;
+};
+
+// The arguments of dl_check.
+struct window_call {
+    uint8_t kind, algorithm, digits, period, size;
+    uint16_t offset; // d + 600
+    uint64_t next, now;
+    uint8_t key[WINDOW_LENGTHS], challenge[WINDOW_LENGTHS];
+    size_t key_len, challenge_len, step_len;
+    struct window_typed presented, following; // nothing following: a single check
+};
+
+struct window_answer {
+    uint16_t code;
+    uint64_t step; // with DL_DONE
+};
+
+// ---- the arguments
+
+static inline struct otp_arguments window_password_arguments(const struct window_call *call, int64_t step)
+{
+    return (struct otp_arguments){
+        .algorithm = call->algorithm, .key = call->key, .key_len = call->key_len,
+        .has_time = call->kind == DL_TIME_TOKEN, .has_count = call->kind == DL_EVENT_TOKEN,
+        .time = (uint64_t)step, .count = (uint32_t)step,
+        .challenge = call->challenge, .challenge_len = call->challenge_len, .digits = call->digits};
+}
+
+// The ranges that dykeladder.h gives; a password may be anything.
+static inline int window_in_range(const struct window_call *call)
+{
+    struct otp_arguments arguments = window_password_arguments(call, 0);
+    return (call->kind == DL_TIME_TOKEN || call->kind == DL_EVENT_TOKEN)
+        && (call->kind == DL_EVENT_TOKEN || call->period > 0)
+        && (call->size == DL_SMALL || call->size == DL_MEDIUM || call->size == DL_LARGE)
+        && call->next <= CLOCK_END + WINDOW_FARTHEST && call->offset <= 2 * WINDOW_FARTHEST
+        && call->now < CLOCK_END && call->step_len > 0 && otp_in_range(&arguments);
+}
+
+// ---- the candidates
+
+// The document's T, d, w and next, which may be subtracted from one another.
+struct window {
+    int is_time;
+    int64_t clock_step, offset, width, next;
+};
+
+static inline struct window window_of(const struct window_call *call)
+{
+    static const int64_t time_widths[] = {[DL_SMALL] = 2, [DL_MEDIUM] = 5, [DL_LARGE] = 10};
+    static const int64_t event_widths[] = {[DL_SMALL] = 10, [DL_MEDIUM] = 20, [DL_LARGE] = 50};
+    int is_time = call->kind == DL_TIME_TOKEN;
+    return (struct window){
+        .is_time = is_time, .clock_step = is_time ? (int64_t)(call->now / call->period) : 0,
+        .offset = (int64_t)call->offset - WINDOW_FARTHEST,
+        .width = is_time ? time_widths[call->size] : event_widths[call->size], .next = (int64_t)call->next};
+}
+
+static inline int64_t window_distance(int64_t one, int64_t other)
+{
+    return one > other ? one - other : other - one;
+}
+
+static inline int window_has(const struct window *window, int64_t step)
+{
+    if (step < 0)
+        return 0;
+    if (window->is_time)
+        return window_distance(step, window->clock_step + window->offset) <= window->width
+            && window_distance(step, window->clock_step) <= WINDOW_FARTHEST;
+    return window->next - 1 <= step && step <= window->next + window->width - 1 && step < COUNT_END;
+}
+
+// The middle of a stretch that has all candidates.
+static inline int64_t window_middle(const struct window *window)
+{
+    return window->is_time ? window->clock_step : window->next;
+}
+
+// ---- the check
+
+// The password of any step; one that the token cannot have is wrapped round as an unsigned number would be.
+static inline void window_password(const struct window_call *call, int64_t step, struct window_typed *password)
+{
+    struct otp_arguments arguments = window_password_arguments(call, step);
+    password->len = call->digits;
+    otp_require(otp_password(&arguments, password->bytes));
+}
+
+static inline int window_shows(const struct window_call *call, int64_t step, const struct window_typed *typed)
+{
+    struct window_typed password;
+    window_password(call, step, &password);
+    return typed->len == password.len && memcmp(typed->bytes, password.bytes, password.len) == 0;
+}
+
+// The step is a candidate with the password, and for a pair the next one is too.
+static inline int window_matches(const struct window *window, const struct window_call *call, int64_t step)
+{
+    if (!window_has(window, step) || !window_shows(call, step, &call->presented))
+        return 0;
+    return call->following.len == 0 || (window_has(window, step + 1) && window_shows(call, step + 1, &call->following));
+}
+
+static inline struct window_answer window_check(const struct window_call *call)
+{
+    if (!window_in_range(call))
+        return (struct window_answer){DL_BAD_ARGUMENT, 0};
+    struct window window = window_of(call);
+    int64_t middle = window_middle(&window), is_pair = call->following.len > 0;
+    uint16_t otherwise = DL_WRONG;
+    for (int64_t step = middle - WINDOW_STRETCH; step <= middle + WINDOW_STRETCH; step++) {
+        if (!window_matches(&window, call, step))
+            continue;
+        if (step >= window.next)
+            return (struct window_answer){DL_DONE, (uint64_t)(step + is_pair)};
+        otherwise = DL_USED;
+    }
+    return (struct window_answer){otherwise, 0};
+}
+
+#endif
