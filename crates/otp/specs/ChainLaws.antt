@@ -10,7 +10,7 @@ use lib.Dec.{ltb, eqb}
 use lib.ListN.{length, take, drop, replicate, length-append, length-take, length-drop, length-replicate, replicate-append-replicate}
 use lib.Seq.{length-take-le, take-at, drop-append-le, take-append-le}
 use Rattle.words.specs.ListsLaws.{drop-zeros, by-test}
-use Rattle.words.specs.Bytes.{beAt, beBytes, putBe}
+use Rattle.words.specs.Bytes.{beAt, beBytes}
 use Rattle.words.specs.BytesLaws.{length-beBytes, beAt-split, beBytes-split, beBytes-mod}
 use Rattle.sm3.specs.Sm3.{sm3Of, sm3Answer}
 use Rattle.sm3.specs.declared.Hash.{Hash}
@@ -97,7 +97,7 @@ unfolding encryptWith reversed
 length-encrypted keys block = simp (length-append, length-beBytes)
 
 -- under 32 words a block's words are encrypted
-pub encrypted : (keys block : List ℕ) {w : Quad} {c : CipherWords} → length keys ≡ 32 → w ≡ wordsOf block → c ≡ encryptWordsAnswer keys w → c .output ≡ wordsOf (encryptWith keys block)
+encrypted : (keys block : List ℕ) {w : Quad} {c : CipherWords} → length keys ≡ 32 → w ≡ wordsOf block → c ≡ encryptWordsAnswer keys w → c .output ≡ wordsOf (encryptWith keys block)
 unfolding encryptWordsAnswer encryptWith
 encrypted keys block k b e = rw (e, k, b)
 
@@ -175,7 +175,7 @@ hashed-bytes key id n {first} {all} h p q =
     (rw (length-append, length-append, length-replicate) (omega arith)))
 
 -- the ID laid into zeros begins with the definition's blocks
-pub chained-of : (key id : List ℕ) {keys buffer : List ℕ} {blocks : ℕ} → length id ≤ 44 → keys ≡ prepared 4 key
+chained-of : (key id : List ℕ) {keys buffer : List ℕ} {blocks : ℕ} → length id ≤ 44 → keys ≡ prepared 4 key
     → buffer ≡ put (replicate 48 0) 0 id → blocks ≡ (0 + max 16 (length id) + 15) / 16 → chain keys buffer (blocks - 1) ≡ chained key (filled id)
 unfolding chained filled toBlocks
 chained-of key id {keys} {buffer} {blocks} h k b n =
