@@ -10,15 +10,18 @@ use lib.Dec.{ltb, eqb}
 use lib.ListN.{length, take, drop, replicate, length-append, length-take, length-drop, length-replicate, replicate-append-replicate}
 use lib.Seq.{length-take-le, take-at, drop-append-le, take-append-le}
 use Rattle.words.specs.ListsLaws.{drop-zeros, by-test}
-use Rattle.words.specs.Bytes.{beAt, beBytes, putBe}
+use Rattle.words.specs.Bytes.{beAt, beBytes}
 use Rattle.words.specs.BytesLaws.{length-beBytes, beAt-split, beBytes-split, beBytes-mod}
 use Rattle.sm3.specs.Sm3.{sm3Of, sm3Answer}
 use Rattle.sm3.specs.declared.Hash.{Hash}
-use Rattle.sm4.specs.Sm4.{encryptWith, reversed, roundKeys, sm4Of, sm4Answer, encryptAnswer, keysAnswer}
+use Rattle.sm4.specs.Sm4.{wordsOf, encryptWith, reversed, roundKeys, sm4Of, keysAnswer, encryptWordsAnswer, firstAnswer}
 use Rattle.sm4.specs.Sm4Laws.{length-roundKeys}
-use Rattle.sm4.specs.declared.encryption.Cipher.{Cipher}
+use Rattle.sm4.specs.ReturnLaws.{output-words}
+use Rattle.sm4.specs.declared.chaining.CipherWords.{CipherWords}
+use Rattle.sm4.specs.declared.round.Quad.{Quad}
+use Rattle.sm4.specs.declared.chaining.First.{First}
 use Rattle.sm4.specs.declared.schedule.Keys.{Keys}
-use Rattle.otp.specs.Password.{blockAt, blockSum, outputOf, chained, filled, toBlocks, cut, algorithmSm4}
+use Rattle.otp.specs.Password.{blockAt, blockSum, outputOf, chained, filled, toBlocks, wordSum, cut, algorithmSm4}
 use Rattle.otp.specs.IdLaws.{put, put-on}
 
 -- the outputs under round keys
@@ -45,23 +48,43 @@ low-half ah al bh bl = omega arith
 halves-bytes : (x : ℕ) → beBytes 16 (x % 2 ^ 128) ≡ beBytes 8 (x / 2 ^ 64 % 2 ^ 64) ++ beBytes 8 (x % 2 ^ 64)
 halves-bytes x = rw (beBytes-mod 16 x) (beBytes-split 8 8 x ∙ rw (← beBytes-mod 8 (x / 2 ^ 64), ← beBytes-mod 8 x))
 
-pub sum-of-halves : (a b : List ℕ) {ah al bh bl ls hs carry : ℕ} → ah ≡ beAt 8 a 0 → al ≡ beAt 8 a 8 → bh ≡ beAt 8 b 0 → bl ≡ beAt 8 b 8
-    → ah < 2 ^ 64 → al < 2 ^ 64 → bh < 2 ^ 64 → bl < 2 ^ 64
-    → ls ≡ (al + bl) % 2 ^ 64 → carry ≡ cond (ltb ls al) 1 0 → hs ≡ ((ah + bh) % 2 ^ 64 + carry) % 2 ^ 64
-    → beBytes 8 hs ++ beBytes 8 ls ≡ blockSum a b
-unfolding blockSum
-sum-of-halves a b {ah} {al} {bh} {bl} {ls} {hs} {carry} p q r s ha la hb lb l c h =
-    let x : beAt 16 a 0 ≡ ah * 2 ^ 64 + al = beAt-split 8 8 a 0 ∙ rw (← p, ← q) in
-    let y : beAt 16 b 0 ≡ bh * 2 ^ 64 + bl = beAt-split 8 8 b 0 ∙ rw (← r, ← s) in
+-- sixteen bytes are four words
+bytes-words : (high low : ℕ) → high < 2 ^ 64 → low < 2 ^ 64
+    → wordsOf (beBytes 8 high ++ beBytes 8 low) ≡ record { a = high / 2 ^ 32; b = high % 2 ^ 32; c = low / 2 ^ 32; d = low % 2 ^ 32 }
+unfolding reversed
+bytes-words high low h l =
+    let eight : (x : ℕ) → beBytes 8 x ≡ beBytes 4 (x / 2 ^ 32) ++ beBytes 4 (x % 2 ^ 32) = λ x. beBytes-split 4 4 x ∙ rw (← beBytes-mod 4 x) in
+    let state : Quad = record { a = low % 2 ^ 32; b = low / 2 ^ 32; c = high % 2 ^ 32; d = high / 2 ^ 32 } in
+    let laid : beBytes 8 high ++ beBytes 8 low ≡ reversed state = rw (eight high, eight low) (simp append-assoc) in
+    rw laid (sym (output-words state (omega arith) (omega arith) (omega arith) (omega arith)))
+
+abbrev number : Quad → ℕ
+number q = (q .a * 2 ^ 32 + q .b) * 2 ^ 64 + (q .c * 2 ^ 32 + q .d)
+
+-- the words of the sum of two blocks, from theirs
+abbrev pub wordsSum : Quad → Quad → Quad
+wordsSum p q = wordsOf (beBytes 16 ((number p + number q) % 2 ^ 128))
+
+pub sum-of-halves : (p q : Quad) {ah al bh bl ls h hs carry : ℕ} → ah ≡ p .a * 2 ^ 32 + p .b → al ≡ p .c * 2 ^ 32 + p .d → bh ≡ q .a * 2 ^ 32 + q .b → bl ≡ q .c * 2 ^ 32 + q .d
+    → al < 2 ^ 64 → bl < 2 ^ 64
+    → ls ≡ (al + bl) % 2 ^ 64 → h ≡ (ah + bh) % 2 ^ 64 → carry ≡ cond (ltb ls al) 1 0 → hs ≡ (h + carry) % 2 ^ 64
+    → _≡_ {A = Quad} (record { a = hs / 2 ^ 32; b = hs % 2 ^ 32; c = ls / 2 ^ 32; d = ls % 2 ^ 32 }) (wordsSum p q)
+sum-of-halves p q {ah} {al} {bh} {bl} {ls} {h} {hs} {carry} ea el eb em la lb l i c e =
     let k : carry ≡ (al + bl) / 2 ^ 64 = c ∙ rw l (carried al bl la lb) in
     let sum = ah * 2 ^ 64 + al + (bh * 2 ^ 64 + bl) in
-    let high : sum / 2 ^ 64 % 2 ^ 64 ≡ hs = high-half ah al bh bl ∙ rw (← k) (sym (h ∙ mod-add-mod (ah + bh) (2 ^ 64) carry)) in
+    let high : sum / 2 ^ 64 % 2 ^ 64 ≡ hs = high-half ah al bh bl ∙ rw (← k) (sym (e ∙ rw i (mod-add-mod (ah + bh) (2 ^ 64) carry))) in
     let low : sum % 2 ^ 64 ≡ ls = low-half ah al bh bl ∙ sym l in
-    rw (x, y) (sym (halves-bytes sum ∙ rw (high, low)))
+    let bytes : beBytes 16 (sum % 2 ^ 128) ≡ beBytes 8 hs ++ beBytes 8 ls = halves-bytes sum ∙ rw (high, low) in
+    rw (← ea, ← el, ← eb, ← em, bytes) (sym (bytes-words hs ls (omega arith) (omega arith)))
 
-pub halves-stored : (high low : ℕ) {o₁ o₂ : List ℕ} → o₁ ≡ putBe 8 (replicate 16 0) 0 high → o₂ ≡ putBe 8 o₁ 8 low → o₂ ≡ beBytes 8 high ++ beBytes 8 low
-unfolding putBe beBytes
-halves-stored high low p q = rw (q, p)
+number-of : (s : List ℕ) → number (wordsOf s) ≡ beAt 16 s 0
+unfolding wordsOf
+number-of s = sym (beAt-split 8 8 s 0 ∙ rw (beAt-split 4 4 s 0, beAt-split 4 4 s 8))
+
+-- the words of two blocks give those of their sum
+sum-words : (a b : List ℕ) → wordsSum (wordsOf a) (wordsOf b) ≡ wordsOf (blockSum a b)
+unfolding blockSum
+sum-words a b = rw (number-of a, number-of b)
 
 -- ---- outputs
 
@@ -69,27 +92,47 @@ halves-stored high low p q = rw (q, p)
 abbrev pub prepared : ℕ → List ℕ → List ℕ
 prepared algorithm key = cond (eqb algorithm algorithmSm4) (roundKeys (take 16 key)) (replicate 32 0)
 
-pub length-encrypted : (keys block : List ℕ) → length (encryptWith keys block) ≡ 16
+length-encrypted : (keys block : List ℕ) → length (encryptWith keys block) ≡ 16
 unfolding encryptWith reversed
 length-encrypted keys block = simp (length-append, length-beBytes)
 
--- with 32 words and 16 bytes a block is encrypted
-pub encrypted : (keys block : List ℕ) {c : Cipher} → length keys ≡ 32 → length block ≡ 16 → c ≡ encryptAnswer keys block → c .block ≡ encryptWith keys block
-unfolding encryptAnswer
+-- under 32 words a block's words are encrypted
+encrypted : (keys block : List ℕ) {w : Quad} {c : CipherWords} → length keys ≡ 32 → w ≡ wordsOf block → c ≡ encryptWordsAnswer keys w → c .output ≡ wordsOf (encryptWith keys block)
+unfolding encryptWordsAnswer encryptWith
 encrypted keys block k b e = rw (e, k, b)
+
+length-chain : (keys s : List ℕ) (i : ℕ) → length (chain keys s i) ≡ 16
+unfolding chain
+length-chain keys s zero = length-encrypted keys (blockAt s 0)
+length-chain keys s (suc i) = length-encrypted keys (blockSum (chain keys s i) (blockAt s (suc i)))
 
 pub prepared-keys : (key : List ℕ) {k : Keys} → 16 ≤ length key → k ≡ keysAnswer (take 16 key) → k .words ≡ prepared 4 key
 unfolding keysAnswer
 prepared-keys key h e = rw (e, length-take-le 16 key h)
 
-pub chain-more : (keys s : List ℕ) (i : ℕ) {out sum next : List ℕ} → 0 < i → out ≡ chain keys s (i - 1) → sum ≡ blockSum out (blockAt s i)
-    → next ≡ encryptWith keys sum → next ≡ chain keys s (i + 1 - 1)
+-- a part of a slice is a block
+pub block-part : (s : List ℕ) (i : ℕ) → take (16 * i + 16 - 16 * i) (drop (16 * i) s) ≡ blockAt s i
+unfolding blockAt
+block-part s i = let e : 16 * i + 16 - 16 * i ≡ 16 = omega arith in rw e
+
+-- the first output, from the block's words
+pub chain-first : (keys s : List ℕ) {w : Quad} {c : CipherWords} → length keys ≡ 32 → w ≡ wordsOf (take (16 - 0) (drop 0 s)) → c ≡ encryptWordsAnswer keys w
+    → c .output ≡ wordsOf (chain keys s 0)
+unfolding chain blockAt
+chain-first keys s k e c = encrypted keys (take 16 s) k e c
+
+-- one more output
+pub chain-more : (keys s : List ℕ) (i : ℕ) {out w sum : Quad} {c : CipherWords} → 0 < i → length keys ≡ 32 → out ≡ wordsOf (chain keys s (i - 1))
+    → w ≡ wordsOf (take (16 * i + 16 - 16 * i) (drop (16 * i) s)) → sum ≡ wordsSum out w → c ≡ encryptWordsAnswer keys sum
+    → c .output ≡ wordsOf (chain keys s (i + 1 - 1))
 unfolding chain
-chain-more keys s zero h p q e = absurd (not-suc-le-zero h)
-chain-more keys s (suc i) h p q e =
+chain-more keys s zero h k p q r e = absurd (not-suc-le-zero h)
+chain-more keys s (suc i) {out} {w} {sum} h k p q r e =
     let a : suc i - 1 ≡ i = omega arith in
     let b : suc i + 1 - 1 ≡ suc i = omega arith in
-    rw (e, q, p, a, b)
+    let added : sum ≡ wordsOf (blockSum (chain keys s i) (blockAt s (suc i))) =
+    r ∙ rw (p, q, a, block-part s (suc i)) (sum-words (chain keys s i) (blockAt s (suc i))) in
+    rw b (encrypted keys (blockSum (chain keys s i) (blockAt s (suc i))) k added e)
 
 block-append : (s t : List ℕ) (i : ℕ) → 16 * (i + 1) ≤ length s → blockAt (s ++ t) i ≡ blockAt s i
 unfolding blockAt
@@ -132,10 +175,10 @@ hashed-bytes key id n {first} {all} h p q =
     (rw (length-append, length-append, length-replicate) (omega arith)))
 
 -- the ID laid into zeros begins with the definition's blocks
-pub chained-of : (key id : List ℕ) {keys buffer out : List ℕ} {blocks : ℕ} → length id ≤ 44 → keys ≡ prepared 4 key
-    → buffer ≡ put (replicate 48 0) 0 id → blocks ≡ (0 + max 16 (length id) + 15) / 16 → out ≡ chain keys buffer (blocks - 1) → out ≡ chained key (filled id)
+chained-of : (key id : List ℕ) {keys buffer : List ℕ} {blocks : ℕ} → length id ≤ 44 → keys ≡ prepared 4 key
+    → buffer ≡ put (replicate 48 0) 0 id → blocks ≡ (0 + max 16 (length id) + 15) / 16 → chain keys buffer (blocks - 1) ≡ chained key (filled id)
 unfolding chained filled toBlocks
-chained-of key id {keys} {buffer} {out} {blocks} h k b n o =
+chained-of key id {keys} {buffer} {blocks} h k b n =
     let f = id ++ replicate (16 - length id) 0 in
     let more = (16 - length f % 16) % 16 in
     let s = f ++ replicate more 0 in
@@ -147,7 +190,7 @@ chained-of key id {keys} {buffer} {out} {blocks} h k b n o =
     let laid : buffer ≡ s ++ replicate (48 - 16 * blocks) 0 = b ∙ zeros-laid 48 id (omega arith) ∙ rw zeros (simp append-assoc) in
     let last : length s / 16 - 1 ≡ blocks - 1 = omega arith in
     let room : 16 * (blocks - 1 + 1) ≤ length s = omega arith in
-    rw last (o ∙ rw (laid, k) (chain-append (roundKeys (take 16 key)) s (replicate (48 - 16 * blocks) 0) (blocks - 1) room ∙ chain-outputs key s (blocks - 1)))
+    rw last (rw (laid, k) (chain-append (roundKeys (take 16 key)) s (replicate (48 - 16 * blocks) 0) (blocks - 1) room ∙ chain-outputs key s (blocks - 1)))
 
 pub length-prepared : (algorithm : ℕ) (key : List ℕ) → length (prepared algorithm key) ≡ 32
 length-prepared algorithm key = pick (eqb algorithm algorithmSm4)
@@ -169,11 +212,6 @@ pub block-length : (s : List ℕ) (i : ℕ) → 16 * i + 16 ≤ length s → len
 unfolding blockAt
 block-length s i h = length-take-le 16 (drop (16 * i) s) (rw length-drop (omega arith))
 
--- a part of a slice is a block
-pub block-part : (s : List ℕ) (i : ℕ) → take (16 * i + 16 - 16 * i) (drop (16 * i) s) ≡ blockAt s i
-unfolding blockAt
-block-part s i = let e : 16 * i + 16 - 16 * i ≡ 16 = omega arith in rw e
-
 -- the hash of what was laid
 pub hashed-of : (key id : List ℕ) {first buffer : List ℕ} {at end : ℕ} {h : Hash} {r : ℕ} → length key ≤ 32 → length id ≤ 44
     → at ≡ 0 + length key → first ≡ put (replicate 76 0) 0 key → end ≡ at + max 16 (length id) → buffer ≡ put first at id
@@ -186,12 +224,20 @@ hashed-of key id {first} {buffer} {at} {end} {h} {r} k l a f e b s c =
     let d : h .digest ≡ sm3Of (key ++ filled id) = rw (s, m, lt-ltb (length (key ++ filled id)) (2 ^ 32) small) in
     c ∙ rw d
 
--- one block: the cipher with a fresh key
-pub one-block : (key id : List ℕ) {buffer : List ℕ} {end : ℕ} {c : Cipher} → 16 ≤ length key → length id ≤ 44 → end ≡ 0 + max 16 (length id) → end ≡ 16
-    → buffer ≡ put (replicate 48 0) 0 id → c ≡ sm4Answer (take (16 - 0) (drop 0 key)) (take (16 - 0) (drop 0 buffer)) → c .block ≡ chained key (filled id)
-unfolding chain blockAt sm4Answer sm4Of
-one-block key id {buffer} {end} {c} k l e s b m =
-    let room : 16 ≤ length buffer = rw (b, zeros-laid 48 id (omega arith), length-append, length-replicate) (omega arith) in
-    let out : c .block ≡ chain (prepared 4 key) buffer (1 - 1) = rw (m, length-take-le 16 key k, length-take-le 16 buffer room) in
-    let one : 1 ≡ (0 + max 16 (length id) + 15) / 16 = omega arith in
-    chained-of key id l refl b one out
+-- ---- a key that is used once
+
+-- the first block's output and the round keys, made side by side
+pub first-output : (key s : List ℕ) {f : First} → 16 ≤ length key → 16 ≤ length s → f ≡ firstAnswer (take (16 - 0) (drop 0 key)) (take (16 - 0) (drop 0 s))
+    → (f .keys ≡ prepared 4 key) × (f .output ≡ wordsOf (chain (f .keys) s 0))
+unfolding chain blockAt firstAnswer sm4Of
+first-output key s k l e = rw (e, length-take-le 16 key k, length-take-le 16 s l) (refl, refl)
+
+-- the cut, from the words of the last output
+pub ciphered-of : (key id : List ℕ) {keys buffer : List ℕ} {end : ℕ} {w : Quad} {r : ℕ} → length id ≤ 44 → keys ≡ prepared 4 key
+    → buffer ≡ put (replicate 48 0) 0 id → end ≡ 0 + max 16 (length id) → w ≡ wordsOf (chain keys buffer ((end + 15) / 16 - 1))
+    → r ≡ (w .a + w .b + w .c + w .d) % 2 ^ 32 → r ≡ cut (chained key (filled id))
+unfolding cut wordSum wordsOf
+ciphered-of key id {keys} {buffer} {end} {w} {r} h k b e o c =
+    let l = length-chain keys buffer ((end + 15) / 16 - 1) in
+    let sum : r ≡ cut (chain keys buffer ((end + 15) / 16 - 1)) = c ∙ rw (o, l, zero-add) in
+    sum ∙ ap cut (chained-of key id h k b (ap (λ (n : ℕ). (n + 15) / 16) e))

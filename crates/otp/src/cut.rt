@@ -1,9 +1,10 @@
 // The cut (6.3): the sum of an output's words, and its last decimal digits.
+use sm4::Quad;
 use std::num::wrapping_add_u32 as add;
 use words::bytes::word_at;
 ghost use mathlib.Core.Path.{_≡_};
 ghost use mathlib.Core.List.{_++_};
-ghost use Prim.Native.Nat.{_≤_, _<_};
+ghost use Prim.Native.Nat.{_+_, _%_, _^_, _≤_};
 ghost use lib.ListN.{length, drop};
 ghost use Rattle.otp.specs.Password.{cut, decimals};
 
@@ -19,6 +20,13 @@ pub(crate) fn cut(output: &[u8]) -> u32
         i += 1;
     }
     sum
+}
+
+// The same for an output of four words.
+pub(crate) fn cut_words(w: Quad) -> u32
+    ensures { λ r. ⌜ r ≡ (w .a + w .b + w .c + w .d) % 2 ^ 32 ⌝ }
+{
+    add(add(add(w.a, w.b), w.c), w.d)
 }
 
 // The last n decimal digits of x, at the front of out. Ten to the n is never formed.

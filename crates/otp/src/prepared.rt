@@ -1,11 +1,14 @@
 // The password with a key prepared once for many, for the proved layers above: they require what those give.
 use crate::Factor;
 use crate::chain::chain;
+use crate::chain::words_of;
 use crate::cut::cut;
+use crate::cut::cut_words;
 use crate::cut::put_decimals;
 use crate::id::put_bytes;
 use crate::id::put_id;
 use sm3::sm3;
+use sm4::encrypt_words;
 use sm4::round_keys;
 ghost use mathlib.Core.Path.{_≡_};
 ghost use mathlib.Core.Bool.{true};
@@ -55,8 +58,8 @@ pub(crate) fn ciphered(
 {
     let mut buffer = [0u8; 48];
     let end = put_id(&mut buffer, 0, time, count, challenge);
-    let output = chain(keys, &buffer, (end + 15) / 16);
-    cut(&output)
+    let first = encrypt_words(keys, words_of(&buffer[0..16])).output;
+    cut_words(chain(keys, &buffer, first, (end + 15) / 16))
 }
 
 // The cut of the algorithm's output, before its digits are taken.

@@ -8,14 +8,16 @@ use native.Mathlib.Omega.{arith}
 use borrow.Author.Tests.{eq-eqb, ne-eqb}
 use lib.ListN.{length, getD, set, take, drop, replicate}
 use lib.Seq.{getD-drop, take-suc-set, take-all, append-snoc}
-use Rattle.words.specs.Bytes.{beBytes, putBe}
-use Rattle.words.specs.Codes.{done}
+use Rattle.words.specs.Bytes.{beAt, beBytes, putBe}
+use Rattle.words.specs.BytesLaws.{word-back}
+use Rattle.words.specs.Codes.{done, badArgument}
 use Rattle.sm4.specs.Sbox.{substitute}
-use Rattle.sm4.specs.Sm4.{word, tau, linear, linearKey, round, step, steps, wordsOf, reversed, encryptWith, masked, ck, cks, keysFrom, roundKeys, keysRefused, keysAnswer, cipherRefused, encryptAnswer}
+use Rattle.sm4.specs.Sm4.{word, tau, linear, linearKey, round, step, steps, wordsOf, reversed, encryptWith, masked, ck, cks, keysFrom, roundKeys, keysRefused, keysAnswer, cipherRefused, encryptAnswer, noWords, encryptWordsAnswer}
 use Rattle.sm4.specs.Sm4Laws.{steps-add, cks-at}
 use Rattle.sm4.specs.declared.round.Quad.{Quad}
 use Rattle.sm4.specs.declared.schedule.Keys.{Keys}
 use Rattle.sm4.specs.declared.encryption.Cipher.{Cipher}
+use Rattle.sm4.specs.declared.chaining.CipherWords.{CipherWords}
 
 -- ---- tables
 
@@ -87,6 +89,27 @@ pub reversed-stored : (q : Quad) {s t u v : List ℕ}
     → s ≡ putBe 4 (replicate 16 0) 0 (q .d) → t ≡ putBe 4 s 4 (q .c) → u ≡ putBe 4 t 8 (q .b) → v ≡ putBe 4 u 12 (q .a) → v ≡ reversed q
 unfolding reversed
 reversed-stored q es et eu ev = ev ∙ rw (eu, et, es) (stored (q .a) (q .b) (q .c) (q .d))
+
+-- the words of what R gives are the state's, the last first
+pub output-words : (q : Quad) → q .a < 2 ^ 32 → q .b < 2 ^ 32 → q .c < 2 ^ 32 → q .d < 2 ^ 32
+    → _≡_ {A = Quad} (record { a = q .d; b = q .c; c = q .b; d = q .a }) (wordsOf (reversed q))
+unfolding wordsOf reversed beAt beBytes
+output-words q a b c d =
+    let first : beAt 4 (reversed q) 0 ≡ q .d = word-back (q .d) d in
+    let second : beAt 4 (reversed q) 4 ≡ q .c = word-back (q .c) c in
+    let third : beAt 4 (reversed q) 8 ≡ q .b = word-back (q .b) b in
+    let fourth : beAt 4 (reversed q) 12 ≡ q .a = word-back (q .a) a in
+    rw (first, second, third, fourth)
+
+module _ (ks : List ℕ) (block : Quad) where
+  pub words-refused : {n : Quad} → (length ks ≡ 32 → ⊥) → n ≡ noWords → _≡_ {A = CipherWords} (record { code = badArgument; output = n }) (encryptWordsAnswer ks block)
+  unfolding encryptWordsAnswer
+  words-refused h e = rw (ne-eqb (length ks) 32 h, e)
+
+  pub words-done : {s w : Quad} → length ks ≡ 32 → s ≡ steps linear ks 32 block → w ≡ wordsOf (reversed s)
+      → _≡_ {A = CipherWords} (record { code = done; output = w }) (encryptWordsAnswer ks block)
+  unfolding encryptWordsAnswer
+  words-done l es ew = rw (eq-eqb (length ks) 32 l, ew, es)
 
 module _ (ks block : List ℕ) where
   pub encrypt-refused-keys : (length ks ≡ 32 → ⊥) → cipherRefused ≡ encryptAnswer ks block

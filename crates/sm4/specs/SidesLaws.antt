@@ -1,17 +1,19 @@
 -- The key schedule and the rounds side by side: each step's round key is used as soon as it is made.
-use Prim.Native.Nat.{ℕ, zero, suc, _+_, _≤_}
-use mathlib.Core.Path.{_≡_, refl}
-use mathlib.Core.List.{List}
+use Prim.Native.Nat.{ℕ, zero, suc, _+_, _-_, _≤_, _<_}
+use mathlib.Core.Path.{_≡_, refl, _∙_}
+use mathlib.Core.List.{List, _++_}
 use native.Mathlib.Nat.{add-zero, add-suc}
 use native.Mathlib.Omega.{arith}
 use borrow.Author.Tests.{eq-eqb, ne-eqb}
-use lib.ListN.{length, getD, drop}
+use lib.ListN.{length, getD, set, take, drop, length-set}
 use lib.Seq.{getD-drop}
 use Rattle.words.specs.Codes.{done}
-use Rattle.sm4.specs.Sm4.{linear, linearKey, round, step, steps, wordsOf, reversed, encryptWith, masked, cks, roundKeys, sm4Of, cipherRefused, sm4Answer}
+use Rattle.sm4.specs.Sm4.{linear, linearKey, round, step, steps, wordsOf, reversed, encryptWith, masked, cks, roundKeys, keysFrom, sm4Of, cipherRefused, sm4Answer, firstRefused, firstAnswer}
 use Rattle.sm4.specs.Sm4Laws.{round-key-is}
+use Rattle.sm4.specs.ReturnLaws.{keys-more}
 use Rattle.sm4.specs.declared.round.Quad.{Quad}
 use Rattle.sm4.specs.declared.sides.Sides.{Sides}
+use Rattle.sm4.specs.declared.chaining.First.{First}
 use Rattle.sm4.specs.declared.encryption.Cipher.{Cipher}
 
 abbrev pub sideStep : ℕ → Sides → Sides
@@ -58,7 +60,51 @@ sides-are key x (suc n) h =
     let k : getD (roundKeys key) n 0 ≡ step linearKey (getD cks n 0) (steps linearKey cks n (masked (wordsOf key))) .d = round-key-is key n h in
     rw (sides-are key x n (omega arith), k)
 
+-- ---- the round keys stored on the way
+
+abbrev pub setFour : List ℕ → ℕ → Quad → List ℕ
+setFour ws i k = set (set (set (set ws i (k .a)) (i + 1) (k .b)) (i + 2) (k .c)) (i + 3) (k .d)
+
+-- one more, at the place after i
+next-key : (parameters ws : List ℕ) (i j : ℕ) (q : Quad) → parameters ≡ cks → length ws ≡ 32 → i < 32 → j ≡ i + 1
+    → take j (set ws i (step linearKey (getD parameters i 0) q .d)) ++ keysFrom (32 - j) j (step linearKey (getD parameters i 0) q) ≡ take i ws ++ keysFrom (32 - i) i q
+next-key parameters ws i j q ep el h e = rw e (keys-more parameters ws i q ep el h refl)
+
+-- four more: each is the last word after its step
+pub four-keys : (parameters ws : List ℕ) (i : ℕ) (s : Sides) {t : Sides} {next : List ℕ} → parameters ≡ cks → length ws ≡ 32 → i + 4 ≤ 32
+    → t ≡ sideSteps (drop i parameters) 4 s → next ≡ setFour ws i (t .key)
+    → (length next ≡ 32) × (take (i + 4) next ++ keysFrom (32 - (i + 4)) (i + 4) (t .key) ≡ take i ws ++ keysFrom (32 - i) i (s .key))
+unfolding sideSteps step
+four-keys parameters ws i s {t} ep el h et en =
+    let k₁ = step linearKey (getD parameters i 0) (s .key) in
+    let k₂ = step linearKey (getD parameters (i + 1) 0) k₁ in
+    let k₃ = step linearKey (getD parameters (i + 2) 0) k₂ in
+    let k₄ = step linearKey (getD parameters (i + 3) 0) k₃ in
+    let e : t .key ≡ k₄ = rw et (simp (getD-drop, add-zero)) in
+    let w₁ = set ws i (k₁ .d) in
+    let w₂ = set w₁ (i + 1) (k₂ .d) in
+    let w₃ = set w₂ (i + 2) (k₃ .d) in
+    rw (en, e) (
+      simp length-set el,
+      next-key parameters w₃ (i + 3) (i + 4) k₃ ep (simp length-set el) (omega arith) (omega arith)
+          ∙ next-key parameters w₂ (i + 2) (i + 3) k₂ ep (simp length-set el) (omega arith) (omega arith)
+          ∙ next-key parameters w₁ (i + 1) (i + 2) k₁ ep (simp length-set el) (omega arith) (omega arith)
+          ∙ next-key parameters ws i (i + 1) (s .key) ep el (omega arith) refl,
+    )
+
+-- all of a key's round keys
+pub sides-keys : (key : List ℕ) {w m : Quad} {ws : List ℕ} → w ≡ wordsOf key → m ≡ masked w → ws ≡ keysFrom 32 0 m → ws ≡ roundKeys key
+unfolding roundKeys
+sides-keys key ew em e = rw (e, em, ew)
+
+-- ---- a block under a key
+
 module _ (key block : List ℕ) where
+  -- the state after all rounds
+  pub sides-state : {w m x : Quad} {s : Sides} → w ≡ wordsOf key → m ≡ masked w → x ≡ wordsOf block
+      → s ≡ sideSteps cks 32 (record { key = m; state = x }) → s .state ≡ steps linear (roundKeys key) 32 (wordsOf block)
+  sides-state ew em ex es = rw (es, em, ew, ex, sides-are key (wordsOf block) 32 (omega arith))
+
   pub sm4-key-refused : (length key ≡ 16 → ⊥) → cipherRefused ≡ sm4Answer key block
   unfolding sm4Answer
   sm4-key-refused n = rw (ne-eqb (length key) 16 n)
@@ -67,9 +113,20 @@ module _ (key block : List ℕ) where
   unfolding sm4Answer
   sm4-block-refused k n = rw (eq-eqb (length key) 16 k, ne-eqb (length block) 16 n)
 
-  pub sm4-made : {w m x : Quad} {s : Sides} {out : List ℕ} → length key ≡ 16 → length block ≡ 16 → w ≡ wordsOf key → m ≡ masked w → x ≡ wordsOf block
-      → s ≡ sideSteps cks 32 (record { key = m; state = x }) → out ≡ reversed (s .state)
-      → _≡_ {A = Cipher} (record { code = done; block = out }) (sm4Answer key block)
-  unfolding sm4Answer sm4Of encryptWith
-  sm4-made k b ew em ex es eo =
-      rw (eq-eqb (length key) 16 k, eq-eqb (length block) 16 b, eo, es, em, ew, ex, sides-are key (wordsOf block) 32 (omega arith))
+  pub first-key-refused : (length key ≡ 16 → ⊥) → firstRefused ≡ firstAnswer key block
+  unfolding firstAnswer
+  first-key-refused n = rw (ne-eqb (length key) 16 n)
+
+  pub first-block-refused : length key ≡ 16 → (length block ≡ 16 → ⊥) → firstRefused ≡ firstAnswer key block
+  unfolding firstAnswer
+  first-block-refused k n = rw (eq-eqb (length key) 16 k, ne-eqb (length block) 16 n)
+
+  module _ {s : Quad} (k : length key ≡ 16) (b : length block ≡ 16) (es : s ≡ steps linear (roundKeys key) 32 (wordsOf block)) where
+    pub sm4-made : {out : List ℕ} → out ≡ reversed s → _≡_ {A = Cipher} (record { code = done; block = out }) (sm4Answer key block)
+    unfolding sm4Answer sm4Of encryptWith
+    sm4-made eo = rw (eq-eqb (length key) 16 k, eq-eqb (length block) 16 b, eo, es)
+
+    pub first-made : {ws : List ℕ} {w : Quad} → ws ≡ roundKeys key → w ≡ wordsOf (reversed s)
+        → _≡_ {A = First} (record { code = done; keys = ws; output = w }) (firstAnswer key block)
+    unfolding firstAnswer sm4Of encryptWith
+    first-made ek ew = rw (eq-eqb (length key) 16 k, eq-eqb (length block) 16 b, ek, ew, es)

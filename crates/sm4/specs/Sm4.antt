@@ -11,6 +11,8 @@ use Rattle.sm4.specs.Sbox.{substitute}
 use Rattle.sm4.specs.declared.round.Quad.{Quad}
 use Rattle.sm4.specs.declared.schedule.Keys.{Keys}
 use Rattle.sm4.specs.declared.encryption.Cipher.{Cipher}
+use Rattle.sm4.specs.declared.chaining.CipherWords.{CipherWords}
+use Rattle.sm4.specs.declared.chaining.First.{First}
 
 -- a word from its four bytes
 unfoldable pub word : ℕ → ℕ → ℕ → ℕ → ℕ
@@ -109,3 +111,21 @@ encryptAnswer ks block =
 unfoldable pub sm4Answer : List ℕ → List ℕ → Cipher
 sm4Answer key block =
     cond (eqb (length key) 16 && eqb (length block) 16) (record { code = done; block = sm4Of key block }) cipherRefused
+
+-- ---- the same with the output as words, for a chain of blocks
+
+abbrev pub noWords : Quad
+noWords = record { a = 0; b = 0; c = 0; d = 0 }
+
+-- a block of four words under round keys
+unfoldable pub encryptWordsAnswer : List ℕ → Quad → CipherWords
+encryptWordsAnswer ks block =
+    cond (eqb (length ks) 32) (record { code = done; output = wordsOf (reversed (steps linear ks 32 block)) }) (record { code = badArgument; output = noWords })
+
+abbrev pub firstRefused : First
+firstRefused = record { code = badArgument; keys = replicate 32 0; output = noWords }
+
+-- a chain's first block under a key, with the round keys for the others
+unfoldable pub firstAnswer : List ℕ → List ℕ → First
+firstAnswer key block =
+    cond (eqb (length key) 16 && eqb (length block) 16) (record { code = done; keys = roundKeys key; output = wordsOf (sm4Of key block) }) firstRefused

@@ -14,8 +14,8 @@ ghost use mathlib.Core.Path.{_≡_};
 ghost use Prim.Native.Nat.{_+_, _≤_};
 ghost use lib.ListN.{length, drop};
 ghost use Rattle.sm4.specs.Sbox.{sbox};
-ghost use Rattle.sm4.specs.Sm4.{cks, sm4Answer};
-ghost use Rattle.sm4.specs.SidesLaws.{sideSteps};
+ghost use Rattle.sm4.specs.Sm4.{linear, steps, wordsOf, cks, keysFrom, roundKeys, sm4Answer};
+ghost use Rattle.sm4.specs.SidesLaws.{sideSteps, setFour};
 
 // The words K_i to K_i+3 and X_i to X_i+3.
 pub struct Sides {
@@ -49,19 +49,50 @@ fn four_sides(table: &[u8], ck: &[u32], s: Sides, i: usize) -> Sides
     Sides { key, state }
 }
 
-// All 32.
-pub(crate) fn all_sides(table: &[u8], ck: &[u32], start: Sides) -> Sides
+// Stores four round keys from i on.
+fn put_keys(keys: &mut [u32], i: usize, k: Quad)
+    requires { ⌜ i + 4 ≤ length (now keys) ⌝ }
+    ensures { λ _. ⌜ now (keys .exit) ≡ setFour (now (keys .entry)) i k ⌝ }
+{
+    keys[i] = k.a;
+    keys[i + 1] = k.b;
+    keys[i + 2] = k.c;
+    keys[i + 3] = k.d;
+}
+
+// All 32. The round keys are left in keys.
+fn all_sides(table: &[u8], ck: &[u32], start: Sides, keys: &mut [u32]) -> Sides
     requires { ⌜ now table ≡ sbox ⌝ }
     requires { ⌜ now ck ≡ cks ⌝ }
+    requires { ⌜ length (now keys) ≡ 32 ⌝ }
     ensures { λ r. ⌜ r ≡ sideSteps cks 32 start ⌝ }
+    ensures { λ _. ⌜ now (keys .exit) ≡ keysFrom 32 0 (start .key) ⌝ }
 {
     let mut s = start;
     let mut i = 0;
     while i < 32 {
         s = four_sides(table, ck, s, i);
+        put_keys(keys, i, s.key);
         i += 4;
     }
     s
+}
+
+// The state after the rounds. The round keys are left in keys.
+pub(crate) fn sides_of(key: &[u8], block: &[u8], keys: &mut [u32]) -> Quad
+    requires { ⌜ length (now key) ≡ 16 ⌝ }
+    requires { ⌜ length (now block) ≡ 16 ⌝ }
+    requires { ⌜ length (now keys) ≡ 32 ⌝ }
+    ensures { λ r. ⌜ r ≡ steps linear (roundKeys (now (key .entry))) 32 (wordsOf (now (block .entry))) ⌝ }
+    ensures { λ _. ⌜ now (keys .exit) ≡ roundKeys (now (key .entry)) ⌝ }
+{
+    let table = sbox();
+    let ck = constants();
+    let start = Sides {
+        key: masked(words_of(key)),
+        state: words_of(block),
+    };
+    all_sides(&table, &ck, start, keys).state
 }
 
 // A block of 16 bytes under a key of 16 bytes.
@@ -74,15 +105,10 @@ pub fn sm4(key: &[u8], block: &[u8]) -> Cipher
     if block.len() != 16 {
         return refused();
     }
-    let table = sbox();
-    let ck = constants();
-    let start = Sides {
-        key: masked(words_of(key)),
-        state: words_of(block),
-    };
-    let end = all_sides(&table, &ck, start).state;
+    let mut keys = [0u32; 32];
+    let state = sides_of(key, block, &mut keys);
     Cipher {
         code: DONE,
-        block: reversed(end),
+        block: reversed(state),
     }
 }

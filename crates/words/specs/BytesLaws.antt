@@ -121,3 +121,8 @@ beBytes-mod (suc k) x =
     let h : x % (256 ^ k * 256) / 256 ≡ x / 256 % 256 ^ k = omega (arith, mod-lt x (zero-lt-suc 255)) in
     let l : x % (256 ^ k * 256) % 256 ≡ x % 256 = omega (arith, mod-lt x (zero-lt-suc 255)) in
     rw (pow-suc, h, l, beBytes-mod k (x / 256))
+
+-- a word is read back from its four bytes
+pub word-back : (x : ℕ) → x < 2 ^ 32 → beAt 4 (beBytes 4 x) 0 ≡ x
+unfolding beAt beBytes
+word-back x h = omega arith

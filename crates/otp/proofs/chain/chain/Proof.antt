@@ -1,36 +1,20 @@
 use Prim.Native.Nat.{_-_, _≤_}
-use mathlib.Core.Path.{_≡_, ap, _∙_}
+use mathlib.Core.Path.{_≡_}
 use borrow.Author.Needs.{needs}
 use native.Mathlib.Omega.{arith}
-use lib.ListN.{length, take}
-use lib.Seq.{length-take-le}
-use Rattle.otp.specs.Password.{blockAt}
-use Rattle.otp.specs.ChainLaws.{chain, encrypted, length-encrypted, chain-more, block-part, block-length}
+use Rattle.sm4.specs.Sm4.{wordsOf}
+use Rattle.otp.specs.ChainLaws.{chain, chain-more, block-part, block-length}
 use Rattle.otp.proofs.chain.chain.Statement.{statement}
 use Rattle.otp.proofs.chain.chain.Tie as tie
 
 abbrev Inv-loop : tie.InvT-loop
-Inv-loop keys s blocks out₀ i₀ out i = (1 ≤ i) × ((i ≤ blocks) × ((length out ≡ 16) × (out ≡ chain keys s (i - 1))))
+Inv-loop keys s blocks out₀ i₀ out i = (1 ≤ i) × ((i ≤ blocks) × (out ≡ wordsOf (chain keys s (i - 1))))
 
 abbrev μ-loop : tie.MeasureT-loop
 μ-loop keys s blocks out₀ i₀ out i = blocks - i
 
-sub-encrypt : tie.Need-sub-encrypt Inv-loop μ-loop
-sub-encrypt c = search needs
-
-part-encrypt-start : tie.Need-part-encrypt-start Inv-loop μ-loop
-part-encrypt-start c = search needs
-
-part-encrypt-end : tie.Need-part-encrypt-end Inv-loop μ-loop
-part-encrypt-end c = search needs
-
-encrypt-requires : tie.Need-encrypt-requires Inv-loop μ-loop
-encrypt-requires c κs = search needs
-
 loop-holds : tie.Need-loop-holds Inv-loop μ-loop
-unfolding chain blockAt
-loop-holds c = let b = encrypted (c .before .before .before .before .before .args .keys .now) (take 16 (c .before .before .before .before .before .args .s .now)) (c .before .before .before .before .before .pre .0) (length-take-le 16 (c .before .before .before .before .before .args .s .now) (omega arith)) (c .before .encrypt .ensures) in
-    (search needs, (search needs, (ap length b ∙ length-encrypted (c .before .before .before .before .before .args .keys .now) (take 16 (c .before .before .before .before .before .args .s .now)), b)))
+loop-holds c = (search needs, (search needs, c .before .before .pre .1 .1 .1))
 
 mul-from : tie.Need-mul-from Inv-loop μ-loop
 mul-from c = search needs
@@ -38,26 +22,23 @@ mul-from c = search needs
 add-to : tie.Need-add-to Inv-loop μ-loop
 add-to c = search needs
 
-slice-aggregate-block-sum : tie.Need-slice-aggregate-block-sum Inv-loop μ-loop
-slice-aggregate-block-sum c = search needs
+sub-words-of : tie.Need-sub-words-of Inv-loop μ-loop
+sub-words-of c = search needs
 
-sub-block-sum : tie.Need-sub-block-sum Inv-loop μ-loop
-sub-block-sum c = search needs
+part-words-of-start : tie.Need-part-words-of-start Inv-loop μ-loop
+part-words-of-start c = search needs
 
-part-block-sum-start : tie.Need-part-block-sum-start Inv-loop μ-loop
-part-block-sum-start c = search needs
+part-words-of-end : tie.Need-part-words-of-end Inv-loop μ-loop
+part-words-of-end c = search needs
 
-part-block-sum-end : tie.Need-part-block-sum-end Inv-loop μ-loop
-part-block-sum-end c = search needs
+words-of-requires : tie.Need-words-of-requires Inv-loop μ-loop
+words-of-requires c κs = rw (block-part (c .before .before .before .before .before .args .s .now) (c .before .before .loop .i)) (block-length (c .before .before .before .before .before .args .s .now) (c .before .before .loop .i) (omega arith))
 
 block-sum-requires : tie.Need-block-sum-requires Inv-loop μ-loop
-block-sum-requires c κs = (c .before .before .before .loop .inv .1 .1 .0, rw (block-part (c .before .before .before .before .before .before .before .before .before .args .s .now) (c .before .before .before .loop .i)) (block-length (c .before .before .before .before .before .before .before .before .before .args .s .now) (c .before .before .before .loop .i) (omega arith)))
+block-sum-requires c κs = search needs
 
-slice-aggregate-encrypt : tie.Need-slice-aggregate-encrypt Inv-loop μ-loop
-slice-aggregate-encrypt c = search needs
-
-encrypt-requires-2 : tie.Need-encrypt-requires-2 Inv-loop μ-loop
-encrypt-requires-2 c κs = search needs
+encrypt-words-requires : tie.Need-encrypt-words-requires Inv-loop μ-loop
+encrypt-words-requires c κs = search needs
 
 add-i : tie.Need-add-i Inv-loop μ-loop
 add-i c = search needs
@@ -66,21 +47,11 @@ loop-less : tie.Need-loop-less Inv-loop μ-loop
 loop-less c = search needs
 
 loop-again : tie.Need-loop-again Inv-loop μ-loop
-loop-again c = let b = encrypted (c .before .before .before .before .before .before .before .before .before .before .before .before .before .args .keys .now) (c .before .before .before .block-sum .result) (c .before .before .before .before .before .before .before .before .before .before .before .before .before .pre .0) (c .before .before .before .block-sum .ensures .0) (c .before .encrypt2 .ensures) in (
-  omega arith,
-  (
-    omega arith,
-    (
-      ap length b ∙ length-encrypted (c .before .before .before .before .before .before .before .before .before .before .before .before .before .args .keys .now) (c .before .before .before .block-sum .result),
-      chain-more (c .before .before .before .before .before .before .before .before .before .before .before .before .before .args .keys .now) (c .before .before .before .before .before .before .before .before .before .before .before .before .before .args .s .now) (c .before .before .before .before .before .before .before .loop .i) (omega arith) (c .before .before .before .before .before .before .before .loop .inv .1 .1 .1)
-          (c .before .before .before .block-sum .ensures .1 ∙ rw (block-part (c .before .before .before .before .before .before .before .before .before .before .before .before .before .args .s .now) (c .before .before .before .before .before .before .before .loop .i)))
-          b,
-    ),
-  ),
-)
+loop-again c = let l = c .before .before .before .before .before .before .loop in
+    (omega arith, (omega arith, chain-more (c .before .before .before .before .before .before .before .before .before .args .keys .now) (c .before .before .before .before .before .before .before .before .before .args .s .now) (l .i) (omega arith) (c .before .before .before .before .before .before .before .before .before .pre .0) (l .inv .1 .1) (c .before .before .before .words-of .ensures) (c .before .before .block-sum .ensures) (c .before .encrypt-words .ensures)))
 
 returns : tie.Need-returns Inv-loop μ-loop
-returns c = let e : c .before .loop .i ≡ c .before .before .before .before .before .before .before .args .blocks = omega arith in (c .before .loop .inv .1 .1 .0, rw e at (c .before .loop .inv .1 .1 .1))
+returns c = let e : c .before .loop .i ≡ c .before .before .before .before .args .blocks = omega arith in rw e at (c .before .loop .inv .1 .1)
 
 pub chain-spec : {M : Type 1} → statement M
 chain-spec =
@@ -88,20 +59,15 @@ chain-spec =
     (tie.spec
     Inv-loop
     μ-loop
-    sub-encrypt
-    part-encrypt-start
-    part-encrypt-end
-    encrypt-requires
     loop-holds
     mul-from
     add-to
-    slice-aggregate-block-sum
-    sub-block-sum
-    part-block-sum-start
-    part-block-sum-end
+    sub-words-of
+    part-words-of-start
+    part-words-of-end
+    words-of-requires
     block-sum-requires
-    slice-aggregate-encrypt
-    encrypt-requires-2
+    encrypt-words-requires
     add-i
     loop-less
     loop-again
