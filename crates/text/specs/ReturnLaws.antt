@@ -37,19 +37,23 @@ large-stays v s h (some w) e =
     let l = le-trans (le-mul-of-pos-right v (one-le-pow (length s) 10 (zero-lt-suc 9))) (digits-grow v s e) in
     rw (le-ltb w (2 ^ 64) (omega arith))
 
+-- the largest number is ten times this and 5
+abbrev tenth : ℕ
+tenth = 0x1999_9999_9999_9999
+
 -- the limit without a division
-pub room-test : (v d : ℕ) → d ≤ 9 → ltb v 0x1999_9999_9999_9999 || (eqb v 0x1999_9999_9999_9999 && leb d 5) ≡ ltb (v * 10 + d) (2 ^ 64)
+pub room-test : (v d : ℕ) → d ≤ 9 → ltb v tenth || (eqb v tenth && leb d 5) ≡ ltb (v * 10 + d) (2 ^ 64)
 room-test v d l =
-    by-test (ltb v 0x1999_9999_9999_9999)
-    (λ t. let h = ltb-true v 0x1999_9999_9999_9999 t in rw (t, lt-ltb (v * 10 + d) (2 ^ 64) (omega arith)))
-    (λ f. let h = ltb-false v 0x1999_9999_9999_9999 f in
-    by-test (eqb v 0x1999_9999_9999_9999)
-    (λ t. let e = eqb-true v 0x1999_9999_9999_9999 t in
+    by-test (ltb v tenth)
+    (λ t. let h = ltb-true v tenth t in rw (t, lt-ltb (v * 10 + d) (2 ^ 64) (omega arith)))
+    (λ f. let h = ltb-false v tenth f in
+    by-test (eqb v tenth)
+    (λ t. let e = eqb-true v tenth t in
     by-test (leb d 5)
     (λ m. let k = leb-true d 5 m in rw (f, t, m, lt-ltb (v * 10 + d) (2 ^ 64) (omega arith)))
     (λ m. let k = leb-false d 5 m in rw (f, t, m, le-ltb (v * 10 + d) (2 ^ 64) (omega arith))))
-    (λ u. let n = eqb-false v 0x1999_9999_9999_9999 u in
-    let above : 0x1999_9999_9999_9999 < v = omega arith in
+    (λ u. let n = eqb-false v tenth u in
+    let above : tenth < v = omega arith in
     rw (f, u, le-ltb (v * 10 + d) (2 ^ 64) (omega arith))))
 
 module _ (s : List ℕ) (i v : ℕ) {right : Bool} (within : i < length s) (tested : right ≡ ltb (digitValue (getD s i 0)) 10) where
