@@ -54,7 +54,7 @@ hexOf [] = some []
 hexOf (h ∷ []) = none
 hexOf (h ∷ l ∷ s) = cond (ltb (digitValue h) 16 && ltb (digitValue l) 16) (byteThen (digitValue h * 16 + digitValue l) (hexOf s)) none
 
--- up to 32 bytes, with zeros behind them
+-- up to 32 bytes, which is what a key may have, with zeros behind them
 unfoldable pub decoded : Option (List ℕ) → Decoded
 decoded none = record { ok = false; len = 0; bytes = replicate 32 0 }
 decoded (some b) =

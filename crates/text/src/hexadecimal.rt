@@ -65,6 +65,7 @@ fn pairs_of(values: [u8; 64]) -> [u8; 32]
     bytes
 }
 
+// What is answered to digits that are wrong or too many.
 fn wrong_digits() -> Decoded
     ensures { λ r. ⌜ r ≡ decoded none ⌝ }
 {
@@ -75,7 +76,7 @@ fn wrong_digits() -> Decoded
     }
 }
 
-// The bytes of s, up to 32.
+// The bytes of s, up to 32: no key has more.
 pub fn hex(s: &[u8]) -> Decoded
     ensures { λ r. ⌜ r ≡ decodedOf (now (s .entry)) ⌝ }
 {
