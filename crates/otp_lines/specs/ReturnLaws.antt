@@ -7,7 +7,7 @@ use native.Mathlib.Omega.{arith}
 use borrow.Author.Tests.{ltb-true, ltb-false}
 use lib.Dec.{ltb}
 use lib.ListN.{length, take, drop, set, replicate, length-append, length-drop, length-replicate, take-append-drop}
-use lib.Seq.{length-take-le, take-at, take-add, take-all, take-append-seam, take-length, take-suc-set}
+use lib.Seq.{length-take-le, take-at, take-add, take-all, take-append-add, take-append-seam, take-length, take-suc-set, take-take}
 use Rattle.words.specs.ListsLaws.{by-test}
 use Rattle.bytes.specs.Bytes.{indexOf, slice}
 use Rattle.otp.specs.IdLaws.{put-part}
@@ -31,32 +31,31 @@ text-put s at b h e =
     }
 
 -- the answer's text in what `answer` gives
-printed-text : (line : List ℕ) {r : Printed} → r ≡ printedOf (lineAnswer line) → take (r .len - 0) (drop 0 (r .bytes)) ≡ lineAnswer line
+printed-text : (line : List ℕ) {r : Printed} → r ≡ printedOf (lineAnswer line) → (r .len ≡ length (lineAnswer line)) × (take (r .len) (r .bytes) ≡ lineAnswer line)
 unfolding printedOf
-printed-text line e =
-    let t = lineAnswer line in
-    let z : length t - 0 ≡ length t = omega arith in
-    rw (e, z) (take-append-seam t (replicate (10 - length t) 0))
+printed-text line e = rw e (refl, take-append-seam (lineAnswer line) (replicate (10 - length (lineAnswer line)) 0))
 
 pub printed-length : (line : List ℕ) {r : Printed} → r ≡ printedOf (lineAnswer line) → (r .len ≤ 10) × (length (r .bytes) ≡ 10)
 unfolding printedOf
 printed-length line e = let l = answer-length line in rw (e, length-append, length-replicate) (omega arith)
 
-pub text-length : (line : List ℕ) {r : Printed} → r ≡ printedOf (lineAnswer line) → length (take (r .len - 0) (drop 0 (r .bytes))) ≤ 10
-text-length line e = rw (printed-text line e) (answer-length line .1)
-
+-- the bytes were put with what stands behind the answer, and the line feed upon that
 module _ (s : List ℕ) (at : ℕ) (line : List ℕ) {r : Printed} {after : List ℕ} {end : ℕ} (answer : r ≡ printedOf (lineAnswer line))
-    (text : Put s at (take (r .len - 0) (drop 0 (r .bytes))) after end) where
-  pub answer-end : end ≤ at + 10
-  answer-end = let l = answer-length line in let e = rw (printed-text line answer) at (text .place) in omega arith
+    (room : at ≤ length s) (bytes : Put s at (r .bytes) after end) where
+  text-put-front : take (at + r .len) after ≡ take at s ++ lineAnswer line
+  text-put-front =
+      let n = printed-length line answer in
+      let p = bytes .place in
+      let l : at + r .len ≤ end = omega arith in
+      let e = length-take-le at s room in
+      sym (take-take (at + r .len) end after l) ∙ rw (bytes .front, ← printed-text line answer .1) (rw e at (take-append-add (take at s) (r .bytes) (r .len)))
 
-  pub answer-put : end < length after → Put s at (answered line) (set after end lineFeed) (end + 1)
+  pub answer-put : at + r .len < length after → Put s at (answered line) (set after (at + r .len) lineFeed) (at + r .len + 1)
   answer-put l =
-      let t = printed-text line answer in
-      let p = rw t at (text .place) in
+      let n = printed-text line answer .0 in
       record {
         place = rw length-append (omega arith);
-        front = rw (add-one, take-suc-set, text .front, t) (append-assoc (take at s) (lineAnswer line) (lineFeed ∷ []));
+        front = rw (add-one, take-suc-set, text-put-front) (append-assoc (take at s) (lineAnswer line) (lineFeed ∷ []));
       }
 
 -- ---- the pending line

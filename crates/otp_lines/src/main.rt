@@ -9,7 +9,7 @@ use pending::LONGEST;
 use stream::feed;
 use stream::finish;
 
-const PIECE: usize = 16384;
+const PIECE: usize = 65536;
 
 // Each byte of a piece may end a line, for which up to ten digits and a line feed are printed.
 const OUTPUT: usize = 11 * PIECE;

@@ -1,12 +1,12 @@
 -- Laws of a line's answer.
 use Prim.Native.Nat.{ℕ, _+_, _-_, _^_, _≤_, _<_, zero-le}
 use mathlib.Core.Path.{_≡_, refl, sym, ap, _∙_}
-use mathlib.Core.Bool.{true, false, cond, _&&_, _||_}
+use mathlib.Core.Bool.{true, false, not, cond, _&&_, _||_}
 use mathlib.Core.List.{List, [], _∷_, _++_}
 use mathlib.Core.Option.{Option, none, some}
 use native.Mathlib.Nat.{add-zero, lt-of-lt-of-le}
 use native.Mathlib.Omega.{arith}
-use borrow.Author.Tests.{lt-ltb, le-ltb, ltb-true, ltb-false, lt-leb, leb-false, ne-eqb, eqb-true, eqb-false}
+use borrow.Author.Tests.{lt-ltb, le-ltb, ltb-true, ltb-false, lt-leb, leb-false, ne-eqb, eqb-true, eqb-false, not-true, not-false}
 use lib.Dec.{eqb, leb, ltb, lit<, lit≤}
 use lib.ListN.{length, getD, take, drop, replicate}
 use Rattle.words.specs.ListsLaws.{by-test, and-false, drop-zeros}
@@ -17,7 +17,7 @@ use Rattle.otp.specs.PasswordLaws.{key-short, challenge-short, known-algorithm,
 use Rattle.words.specs.Codes.{done, badArgument}
 use Rattle.text.specs.declared.numbers.Number.{Number}
 use Rattle.text.specs.declared.hexadecimal.Decoded.{Decoded}
-use Rattle.text.specs.Text.{stored, decodedOf, decimalOf, bounded, numberOf, hexOf, fieldsOf, sumLengths}
+use Rattle.text.specs.Text.{decoded, decodedOf, decimalOf, bounded, numberOf, hexOf, fieldsOf, sumLengths}
 use Rattle.text.specs.TextLaws.{number-value, hex-decoded, decimal-length, hex-length, length-fields, SixFields}
 use Rattle.password_lines.specs.declared.Printed.{Printed}
 use Rattle.password_lines.specs.declared.fields.FactorRead.{FactorRead}
@@ -169,28 +169,27 @@ module _ (key : List ℕ) (time count : Factor) (challenge : List ℕ) where
       (bad-algorithm x key time count challenge (smallOf d) (rw (ne-eqb x 3 (λ e. omega arith), ne-eqb x 4 (λ e. omega arith)))))
 
 -- digits that are not right, or too many for a key, give the refusal
-hex-bad : (o : Option (List ℕ)) (out : List ℕ) (f : List ℕ → List ℕ) → length out ≡ 32 → ((k : List ℕ) → 32 < length k → f k ≡ refusal)
-    → stored o out .answer ≡ Decoded.Bad → given o f ≡ refusal
-unfolding stored
-hex-bad none out f l h e = refl
-hex-bad (some k) out f l h e =
-    by-test (leb (length k) (length out))
-    (λ t. let y : _≡_ {A = ℕ} 0 1 = (let z = rw t at e in cc) in absurd (omega arith))
-    (λ t. h k (let m = leb-false (length k) (length out) t in omega arith))
+hex-bad : (o : Option (List ℕ)) (f : List ℕ → List ℕ) → ((k : List ℕ) → 32 < length k → f k ≡ refusal) → decoded o .ok ≡ false → given o f ≡ refusal
+unfolding decoded
+hex-bad none f h e = refl
+hex-bad (some k) f h e =
+    by-test (leb (length k) 32)
+    (λ t. let z : true ≡ false = rw t at e in let y : _≡_ {A = ℕ} 0 1 = cc in absurd (omega arith))
+    (λ t. h k (leb-false (length k) 32 t))
 
 module _ (key time count challenge algorithm digits : List ℕ) where
-  pub answer-bad-key : (out : List ℕ) → length out ≡ 32 → Decoded.Bad ≡ decodedOf key out .answer → printedOf refusal ≡ printedOf (fieldsAnswer key time count challenge algorithm digits)
+  pub answer-bad-key : {r : Decoded} → r ≡ decodedOf key → not (r .ok) ≡ true → printedOf refusal ≡ printedOf (fieldsAnswer key time count challenge algorithm digits)
   unfolding fieldsAnswer
-  answer-bad-key out l e =
+  answer-bad-key {r} p e =
       ap printedOf
       (sym
-      (hex-bad (hexOf key) out _ l
+      (hex-bad (hexOf key) _
       (λ k m.
       given-holds (λ s. s ≡ refusal) refl (factorField (2 ^ 64) time) _
       (λ t p. given-holds (λ s. s ≡ refusal) refl (factorField (2 ^ 32) count) _
       (λ c q. small-fields k t c challenge (decimalOf algorithm) (decimalOf digits)
       ∙ long-key (smallOf (decimalOf algorithm)) k t c challenge (smallOf (decimalOf digits)) m)))
-      (sym e)))
+      (rw (← p) (not-true (r .ok) e))))
 
   pub answer-bad-time : {k : List ℕ} → hexOf key ≡ some k → Bad ≡ readOf (factorField (2 ^ 64) time)
       → printedOf refusal ≡ printedOf (fieldsAnswer key time count challenge algorithm digits)
@@ -228,13 +227,13 @@ pub line-other : (line : List ℕ) → eqb (length (fieldsOf line)) 6 ≡ false 
 unfolding lineAnswer
 line-other line e = rw e
 
--- the key that was decoded is the front of the output
-pub key-decoded : (key out : List ℕ) {n : ℕ} {answered : Decoded} {after : List ℕ} → answered ≡ decodedOf key out .answer → after ≡ decodedOf key out .out
-    → answered ≡ Decoded.Bytes n → (hexOf key ≡ some (take (n - 0) (drop 0 after))) × (n ≤ length out)
-key-decoded key out {n} p q e =
-    let h = hex-decoded key out (sym p ∙ e) in
-    let z : n - 0 ≡ n = omega arith in
-    (h .0 ∙ rw (q, z), h .1)
+-- the key that was decoded is the front of the bytes
+pub key-decoded : (key : List ℕ) {r : Decoded} → r ≡ decodedOf key → not (r .ok) ≡ false
+    → (hexOf key ≡ some (take (r .len - 0) (drop 0 (r .bytes)))) × (r .len ≤ length (r .bytes))
+key-decoded key {r} p e =
+    let h = hex-decoded key (rw p at (not-false (r .ok) e)) in
+    let z : r .len - 0 ≡ r .len = omega arith in
+    (rw (z, p) (h .0), rw p (h .1))
 
 -- ---- lengths
 

@@ -2,7 +2,6 @@
 use crate::Printed;
 use otp::Factor;
 use otp::password;
-use text::Decoded;
 use text::Number;
 use text::decimal;
 use text::hex;
@@ -88,10 +87,12 @@ pub(crate) fn fields_answer(
 ) -> Printed
     ensures { λ r. ⌜ r ≡ printedOf (fieldsAnswer (now (key .entry)) (now (time .entry)) (now (count .entry)) (now (challenge .entry)) (now (algorithm .entry)) (now (digits .entry))) ⌝ }
 {
-    let mut bytes = [0u8; 32];
-    let Decoded::Bytes(n) = hex(key, &mut bytes) else {
+    let decoded = hex(key);
+    if !decoded.ok {
         return refused();
-    };
+    }
+    let n = decoded.len;
+    let bytes = decoded.bytes;
     let FactorRead::Is(t) = factor_field(time, 0xffff_ffff_ffff_ffff) else {
         return refused();
     };

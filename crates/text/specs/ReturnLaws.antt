@@ -1,22 +1,21 @@
 -- What each function of the code returns, over what the functions that it calls ensure.
 use Prim.Native.Nat.{ℕ, zero, suc, _+_, _-_, _*_, _/_, _%_, _^_, _≤_, _<_}
 use mathlib.Core.Path.{_≡_, refl, sym, _∙_}
-use mathlib.Core.Bool.{Bool, true, false, not, _&&_}
-use mathlib.Core.List.{List, [], _∷_, _++_, append-nil}
+use mathlib.Core.Bool.{Bool, true, false, not, _&&_, _||_}
+use mathlib.Core.List.{List, [], _∷_, _++_, map, append-nil}
 use mathlib.Core.Option.{Option, none, some}
-use native.Mathlib.Nat.{add-zero, zero-add, zero-lt-suc, le-trans, le-mul-of-pos-right, one-le-pow}
+use native.Mathlib.Nat.{add-zero, zero-lt-suc, le-trans, le-mul-of-pos-right, one-le-pow}
 use native.Mathlib.Numerals.{add-one}
 use native.Mathlib.Omega.{arith}
-use borrow.Author.Tests.{eq-eqb, ne-eqb, lt-ltb, le-ltb, le-leb, lt-leb, ltb-true, ltb-false, eqb-true, not-true, not-false}
-use lib.Dec.{eqb, ltb, eqb·suc-suc, eqb·zero-suc}
+use borrow.Author.Tests.{eq-eqb, ne-eqb, lt-ltb, le-ltb, le-leb, lt-leb, ltb-true, ltb-false, leb-true, leb-false, eqb-true, eqb-false, not-true, not-false}
+use lib.Dec.{eqb, leb, ltb, eqb·suc-suc, eqb·zero-suc}
 use lib.ListN.{length, getD, set, take, drop, replicate, length-set, length-drop, drop-of-length-le}
-use lib.Seq.{length-take-le, drop-cons, take-suc-set, take-all, append-snoc, take-length, paste-suc}
+use lib.Seq.{length-take-le, drop-cons, take-suc-set, take-all, append-snoc, take-length}
 use Rattle.bytes.specs.Bytes.{indexOf, slice}
-use Rattle.words.specs.ListsLaws.{and-true, and-assoc, by-test}
-use Rattle.words.specs.Tables.{and-left, and-right}
-use Rattle.text.specs.Text.{digitValue, digitsFrom, decimalOf, bounded, numberOf, stored, decodedOf, comma, fieldsOf, fieldEnd, fieldAt, endsFrom, splitOf}
+use Rattle.words.specs.ListsLaws.{and-true, and-assoc, drop-replicate, by-test}
+use Rattle.text.specs.Text.{digitValue, digitsFrom, decimalOf, bounded, numberOf, decoded, decodedOf, comma, fieldsOf, fieldEnd, fieldAt, endsFrom, splitOf}
 use Rattle.text.specs.Steps.{allHex, pairsOf, startAfter, endsAfter}
-use Rattle.text.specs.TextLaws.{digits-grow, hex-is, length-pairs, end-le, fields-positive, fields-from}
+use Rattle.text.specs.TextLaws.{decimal-value, digits-grow, hex-is, length-pairs, end-le, fields-positive, fields-from}
 use Rattle.text.specs.declared.numbers.Number.{Number}
 use Rattle.text.specs.declared.hexadecimal.Decoded.{Decoded}
 use Rattle.text.specs.declared.fields.Field.{Field}
@@ -38,20 +37,49 @@ large-stays v s h (some w) e =
     let l = le-trans (le-mul-of-pos-right v (one-le-pow (length s) 10 (zero-lt-suc 9))) (digits-grow v s e) in
     rw (le-ltb w (2 ^ 64) (omega arith))
 
-module _ (s : List ℕ) (i v : ℕ) {d : ℕ} (within : i < length s) (digit : d ≡ digitValue (getD s i 0)) where
-  pub digits-wrong : 9 < d → Number.Bad ≡ bounded (digitsFrom v (drop i s))
+-- the largest number is ten times this and 5
+abbrev tenth : ℕ
+tenth = 0x1999_9999_9999_9999
+
+-- the limit without a division
+pub room-test : (v d : ℕ) → d ≤ 9 → ltb v tenth || (eqb v tenth && leb d 5) ≡ ltb (v * 10 + d) (2 ^ 64)
+room-test v d l =
+    by-test (ltb v tenth)
+    (λ t. let h = ltb-true v tenth t in rw (t, lt-ltb (v * 10 + d) (2 ^ 64) (omega arith)))
+    (λ f. let h = ltb-false v tenth f in
+    by-test (eqb v tenth)
+    (λ t. let e = eqb-true v tenth t in
+    by-test (leb d 5)
+    (λ m. let k = leb-true d 5 m in rw (f, t, m, lt-ltb (v * 10 + d) (2 ^ 64) (omega arith)))
+    (λ m. let k = leb-false d 5 m in rw (f, t, m, le-ltb (v * 10 + d) (2 ^ 64) (omega arith))))
+    (λ u. let n = eqb-false v tenth u in
+    let above : tenth < v = omega arith in
+    rw (f, u, le-ltb (v * 10 + d) (2 ^ 64) (omega arith))))
+
+module _ (s : List ℕ) (i v : ℕ) {right : Bool} (within : i < length s) (tested : right ≡ ltb (digitValue (getD s i 0)) 10) where
+  pub digits-wrong : not right ≡ true → Number.Bad ≡ bounded (digitsFrom v (drop i s))
   unfolding digitsFrom bounded
-  digits-wrong h = rw (drop-cons s i 0 within, ← digit, le-ltb d 10 (omega arith))
+  digits-wrong t = rw (drop-cons s i 0 within, ← tested, not-true right t)
 
-  digits-more : d ≤ 9 → digitsFrom (v * 10 + d) (drop (i + 1) s) ≡ digitsFrom v (drop i s)
-  unfolding digitsFrom
-  digits-more h = rw (add-one, drop-cons s i 0 within, ← digit, lt-ltb d 10 (omega arith))
+  module _ (digit : not right ≡ false) where
+    pub digit-read : (digitValue (getD s i 0) ≡ getD s i 0 - 0x30) × ((0x30 ≤ getD s i 0) × (getD s i 0 ≤ 0x39))
+    digit-read = decimal-value (getD s i 0) (sym tested ∙ not-false right digit)
 
-  pub digits-large : d ≤ 9 → (0xffff_ffff_ffff_ffff - d) / 10 < v → Number.Bad ≡ bounded (digitsFrom v (drop i s))
-  digits-large h l = rw (← digits-more h) (large-stays (v * 10 + d) (drop (i + 1) s) (omega arith) (digitsFrom (v * 10 + d) (drop (i + 1) s)) refl)
+    digits-more : digitsFrom (v * 10 + (getD s i 0 - 0x30)) (drop (i + 1) s) ≡ digitsFrom v (drop i s)
+    unfolding digitsFrom
+    digits-more = rw (add-one, drop-cons s i 0 within, ← tested, not-false right digit, digit-read .0)
 
-  pub read-more : Read s v i → d ≤ 9 → v ≤ (0xffff_ffff_ffff_ffff - d) / 10 → Read s (v * 10 + d) (i + 1)
-  read-more r h l = record { within = omega arith; fits = omega arith; rest = digits-more h ∙ r .rest }
+    module _ {room : Bool} (limit : room ≡ ltb (v * 10 + (getD s i 0 - 0x30)) (2 ^ 64)) where
+      pub digits-large : not room ≡ true → Number.Bad ≡ bounded (digitsFrom v (drop i s))
+      digits-large t =
+          rw (← digits-more)
+          (large-stays (v * 10 + (getD s i 0 - 0x30)) (drop (i + 1) s) (ltb-false _ (2 ^ 64) (sym limit ∙ not-true room t)) _ refl)
+
+      pub digits-small : not room ≡ false → v * 10 + (getD s i 0 - 0x30) < 2 ^ 64
+      digits-small t = ltb-true _ (2 ^ 64) (sym limit ∙ not-false room t)
+
+      pub read-more : Read s v i → not room ≡ false → Read s (v * 10 + (getD s i 0 - 0x30)) (i + 1)
+      read-more r t = record { within = omega arith; fits = digits-small t; rest = digits-more ∙ r .rest }
 
 pub digits-end : (s : List ℕ) (i v : ℕ) → length s ≤ i → v < 2 ^ 64 → Number.Value v ≡ bounded (digitsFrom v (drop i s))
 unfolding digitsFrom bounded
@@ -81,66 +109,89 @@ decimal-leading (b ∷ c ∷ s) z l = rw (z, lt-ltb 0 (suc (length s)) (zero-lt-
 
 -- ---- hexadecimal bytes
 
--- one more byte is held to be a digit
-pub all-more : (s : List ℕ) (i : ℕ) (right : Bool) {d : ℕ} → i < length s → d ≡ digitValue (getD s i 0)
-    → right && allHex (drop i s) ≡ (right && ltb d 16) && allHex (drop (i + 1) s)
-unfolding allHex
-all-more s i right l e = rw (add-one, and-assoc, drop-cons s i 0 l, e)
+pub digits-padded : (s : List ℕ) {digits : List ℕ} → digits ≡ take (length s) s ++ drop (length s) (replicate 64 0x30)
+    → digits ≡ s ++ replicate (64 - length s) 0x30
+digits-padded s e = e ∙ rw (take-length s, drop-replicate (length s) 64 0x30)
 
-pub all-end : (s : List ℕ) (i : ℕ) (right : Bool) → length s ≤ i → right && allHex (drop i s) ≡ right
-unfolding allHex
-all-end s i right l = rw (drop-of-length-le s l) (and-true right)
+-- one more digit is valued
+pub values-more : (digits values : List ℕ) (i : ℕ) {d : ℕ} → i < length digits → i < length values → d ≡ digitValue (getD digits i 0)
+    → take (i + 1) (set values i d) ++ map digitValue (drop (i + 1) digits) ≡ take i values ++ map digitValue (drop i digits)
+values-more digits values i l m e =
+    rw (add-one i, take-suc-set values i, drop-cons digits i 0 l, e) (append-snoc (take i values) (digitValue (getD digits i 0)) (map digitValue (drop (suc i) digits)))
 
-pub all-at : (s : List ℕ) (i : ℕ) {d : ℕ} → allHex s ≡ true → i < length s → d ≡ digitValue (getD s i 0) → d < 16
-unfolding allHex
-all-at [] i t l e = absurd (omega arith)
-all-at (b ∷ s) zero t l e = rw e (ltb-true (digitValue b) 16 (and-left (ltb (digitValue b) 16) (allHex s) t))
-all-at (b ∷ s) (suc i) t l e = all-at s i (and-right (ltb (digitValue b) 16) (allHex s) t) (omega arith) e
+pub values-end : (digits values : List ℕ) (i : ℕ) → length digits ≤ i → length values ≤ i → take i values ++ map digitValue (drop i digits) ≡ values
+values-end digits values i l m = rw (drop-of-length-le digits l, append-nil (take i values)) (take-all i values m)
 
-pair-at : (s : List ℕ) (i : ℕ) → i < length s / 2 → getD (pairsOf s) i 0 ≡ digitValue (getD s (2 * i) 0) * 16 + digitValue (getD s (2 * i + 1) 0)
-unfolding pairsOf
-pair-at [] i l = absurd (omega arith)
-pair-at (h ∷ []) i l = absurd (omega arith)
-pair-at (h ∷ m ∷ s) zero l = refl
-pair-at (h ∷ m ∷ s) (suc i) l =
-    let e : 2 * suc i ≡ suc (suc (2 * i)) = omega arith in
-    let f : 2 * suc i + 1 ≡ suc (suc (2 * i + 1)) = omega arith in
-    rw (f, e) (pair-at s i (omega arith))
+-- one more value is held to be a digit's
+pub all-more : (values : List ℕ) (i : ℕ) (right : Bool) → i < length values
+    → right && allHex (drop i values) ≡ (right && ltb (getD values i 0) 16) && allHex (drop (i + 1) values)
+unfolding allHex
+all-more values i right l = rw (add-one, and-assoc, drop-cons values i 0 l)
+
+pub all-end : (values : List ℕ) (i : ℕ) (right : Bool) → length values ≤ i → right && allHex (drop i values) ≡ right
+unfolding allHex
+all-end values i right l = rw (drop-of-length-le values l) (and-true right)
 
 -- one more byte is stored
-pub decode-more : (s out : List ℕ) (i : ℕ) {high low : ℕ} → i < length s / 2 → length s / 2 ≤ length out
-    → high ≡ digitValue (getD s (2 * i) 0) → low ≡ digitValue (getD s (2 * i + 1) 0)
-    → set (take i (pairsOf s) ++ drop i out) i (high * 16 + low) ≡ take (i + 1) (pairsOf s) ++ drop (i + 1) out
-decode-more s out i l r eh el =
-    let n = length-pairs s in
-    rw (eh, el, ← pair-at s i l, add-one) (simp zero-add at (paste-suc out 0 (pairsOf s) i 0 (omega arith) (omega arith)))
+pub pairs-more : (values bytes : List ℕ) (i : ℕ) → 2 * i + 1 < length values → i < length bytes
+    → take (i + 1) (set bytes i (getD values (2 * i) 0 % 16 * 16 + getD values (2 * i + 1) 0 % 16)) ++ pairsOf (drop (2 * (i + 1)) values)
+    ≡ take i bytes ++ pairsOf (drop (2 * i) values)
+unfolding pairsOf
+pairs-more values bytes i l m =
+    let e : 2 * suc i ≡ suc (suc (2 * i)) = omega arith in
+    let f : 2 * i + 1 ≡ suc (2 * i) = omega arith in
+    let first : 2 * i < length values = omega arith in
+    let second : suc (2 * i) < length values = omega arith in
+    rw (f, add-one i, e, take-suc-set bytes i, drop-cons values (2 * i) 0, drop-cons values (suc (2 * i)) 0)
+    (append-snoc (take i bytes) (getD values (2 * i) 0 % 16 * 16 + getD values (suc (2 * i)) 0 % 16) (pairsOf (drop (suc (suc (2 * i))) values)))
 
-pub decode-end : (s out : List ℕ) (i : ℕ) → i ≡ length s / 2 → take i (pairsOf s) ++ drop i out ≡ pairsOf s ++ drop (length s / 2) out
-decode-end s out i e = let l : length (pairsOf s) ≤ length s / 2 = rw (length-pairs s) (omega arith) in rw (e, take-all (length s / 2) (pairsOf s) l)
+pub pairs-end : (values bytes : List ℕ) (i : ℕ) → length values ≤ 2 * i → length bytes ≤ i → take i bytes ++ pairsOf (drop (2 * i) values) ≡ bytes
+unfolding pairsOf
+pairs-end values bytes i l m = rw (drop-of-length-le values l, append-nil (take i bytes)) (take-all i bytes m)
 
-module _ (s out : List ℕ) where
-  pub hex-odd : (length s % 2 ≡ 0 → ⊥) → (Decoded.Bad ≡ decodedOf s out .answer) × (out ≡ decodedOf s out .out)
-  unfolding stored
-  hex-odd n = rw (hex-is s, ne-eqb (length s % 2) 0 n) (refl, refl)
+-- zeros behind the digits are right, and the bytes have zeros behind them
+padded-all : (s : List ℕ) (k : ℕ) → allHex (map digitValue (s ++ replicate k 0x30)) ≡ allHex (map digitValue s)
+unfolding allHex digitValue
+padded-all [] zero = refl
+padded-all [] (suc k) = padded-all [] k
+padded-all (b ∷ s) k = rw (padded-all s k)
+
+padded-pairs : (s : List ℕ) (k : ℕ) → length s % 2 ≡ 0 → pairsOf (map digitValue (s ++ replicate (2 * k) 0x30)) ≡ pairsOf (map digitValue s) ++ replicate k 0
+unfolding pairsOf digitValue
+padded-pairs [] zero e = refl
+padded-pairs [] (suc k) e = let m : 2 * suc k ≡ suc (suc (2 * k)) = omega arith in rw (m, padded-pairs [] k e)
+padded-pairs (h ∷ []) k e = absurd (omega arith)
+padded-pairs (h ∷ l ∷ s) k e = rw (padded-pairs s k (omega arith))
+
+module _ (s : List ℕ) where
+  pub hex-odd : (length s % 2 ≡ 0 → ⊥) → decoded none ≡ decodedOf s
+  unfolding decoded
+  hex-odd n = rw (hex-is s, ne-eqb (length s % 2) 0 n)
 
   module _ (even : length s % 2 ≡ 0) where
-    pub hex-short : length out < length s / 2 → (Decoded.Bad ≡ decodedOf s out .answer) × (out ≡ decodedOf s out .out)
-    unfolding stored
-    hex-short l =
-        by-test (allHex s)
-        (λ t. rw (hex-is s, eq-eqb (length s % 2) 0 even, t, length-pairs s, lt-leb (length s / 2) (length out) l) (refl, refl))
-        (λ f. rw (hex-is s, eq-eqb (length s % 2) 0 even, f) (refl, refl))
+    pub hex-long : 64 < length s → decoded none ≡ decodedOf s
+    unfolding decoded
+    hex-long l =
+        by-test (allHex (map digitValue s))
+        (λ t. let m : 32 < length s / 2 = omega arith in rw (hex-is s, eq-eqb (length s % 2) 0 even, t, length-pairs s, lt-leb (length s / 2) 32 m))
+        (λ f. rw (hex-is s, eq-eqb (length s % 2) 0 even, f))
 
-    module _ {right : Bool} (tested : right ≡ allHex s) where
-      pub hex-wrong : not right ≡ true → (Decoded.Bad ≡ decodedOf s out .answer) × (out ≡ decodedOf s out .out)
-      unfolding stored
-      hex-wrong t = rw (hex-is s, eq-eqb (length s % 2) 0 even, ← tested, not-true right t) (refl, refl)
+    module _ (short : length s ≤ 64) {digits values : List ℕ} {right : Bool} (pad : digits ≡ s ++ replicate (64 - length s) 0x30)
+        (valued : values ≡ map digitValue digits) (tested : right ≡ allHex values) where
+      tested-digits : right ≡ allHex (map digitValue s)
+      tested-digits = tested ∙ rw (valued, pad) (padded-all s (64 - length s))
 
-      pub hex-done : {after : List ℕ} → length s / 2 ≤ length out → not right ≡ false → after ≡ pairsOf s ++ drop (length s / 2) out
-          → (Decoded.Bytes (length s / 2) ≡ decodedOf s out .answer) × (after ≡ decodedOf s out .out)
-      unfolding stored
-      hex-done l t e =
-          rw (hex-is s, eq-eqb (length s % 2) 0 even, ← tested, not-false right t, length-pairs s, le-leb (length s / 2) (length out) l) (refl, e)
+      pub hex-wrong : not right ≡ true → decoded none ≡ decodedOf s
+      unfolding decoded
+      hex-wrong t = rw (hex-is s, eq-eqb (length s % 2) 0 even, ← tested-digits, not-true right t)
+
+      pub hex-done : {bytes : List ℕ} → not right ≡ false → bytes ≡ pairsOf values
+          → _≡_ {A = Decoded} (record { ok = true; len = length s / 2; bytes = bytes }) (decodedOf s)
+      unfolding decoded
+      hex-done t e =
+          let m : 64 - length s ≡ 2 * (32 - length s / 2) = omega arith in
+          let h : length s / 2 ≤ 32 = omega arith in
+          rw (hex-is s, eq-eqb (length s % 2) 0 even, ← tested-digits, not-false right t, length-pairs s, le-leb (length s / 2) 32 h, e, valued, pad, m, padded-pairs s (32 - length s / 2) even)
 
 -- ---- a field
 

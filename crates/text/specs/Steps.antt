@@ -1,20 +1,20 @@
 -- What the private functions and the loops compute, on the way to the definitions of Text.
-use Prim.Native.Nat.{ℕ, zero, suc, _+_, _*_}
+use Prim.Native.Nat.{ℕ, zero, suc, _+_, _*_, _%_}
 use mathlib.Core.Bool.{Bool, true, _&&_}
 use mathlib.Core.List.{List, [], _∷_}
 use lib.Dec.{ltb}
-use Rattle.text.specs.Text.{digitValue, fieldEnd}
+use Rattle.text.specs.Text.{fieldEnd}
 
--- every byte of s is a hexadecimal digit
+-- every value is that of a hexadecimal digit
 unfoldable pub allHex : List ℕ → Bool
 allHex [] = true
-allHex (b ∷ s) = ltb (digitValue b) 16 && allHex s
+allHex (d ∷ values) = ltb d 16 && allHex values
 
--- the bytes of the pairs of digits in s
+-- the bytes of the pairs of values, of which only the lower halves are taken
 unfoldable pub pairsOf : List ℕ → List ℕ
 pairsOf [] = []
 pairsOf (h ∷ []) = []
-pairsOf (h ∷ l ∷ s) = (digitValue h * 16 + digitValue l) ∷ pairsOf s
+pairsOf (h ∷ l ∷ values) = (h % 16 * 16 + l % 16) ∷ pairsOf values
 
 -- where the next field starts, n fields after the one at start
 unfoldable pub startAfter : ℕ → List ℕ → ℕ → ℕ

@@ -54,21 +54,16 @@ hexOf [] = some []
 hexOf (h ∷ []) = none
 hexOf (h ∷ l ∷ s) = cond (ltb (digitValue h) 16 && ltb (digitValue l) 16) (byteThen (digitValue h * 16 + digitValue l) (hexOf s)) none
 
--- what is answered, and the output after the call
-pub record Decoding : Type 0 where
-  pub answer : Decoded
-  pub out : List ℕ
+-- up to 32 bytes, which is what a key may have, with zeros behind them
+unfoldable pub decoded : Option (List ℕ) → Decoded
+decoded none = record { ok = false; len = 0; bytes = replicate 32 0 }
+decoded (some b) =
+    cond (leb (length b) 32)
+    (record { ok = true; len = length b; bytes = b ++ replicate (32 - length b) 0 })
+    (record { ok = false; len = 0; bytes = replicate 32 0 })
 
--- the bytes go to the front of the output where it has room for them, and the rest stays
-unfoldable pub stored : Option (List ℕ) → List ℕ → Decoding
-stored none out = record { answer = Decoded.Bad; out = out }
-stored (some b) out =
-    cond (leb (length b) (length out))
-    (record { answer = Decoded.Bytes (length b); out = b ++ drop (length b) out })
-    (record { answer = Decoded.Bad; out = out })
-
-abbrev pub decodedOf : List ℕ → List ℕ → Decoding
-decodedOf s out = stored (hexOf s) out
+abbrev pub decodedOf : List ℕ → Decoded
+decodedOf s = decoded (hexOf s)
 
 -- ---- fields
 

@@ -1,24 +1,22 @@
 -- What a line program needs of decimal numbers, hexadecimal bytes and fields.
-use Prim.Native.Nat.{ℕ, zero, suc, _+_, _-_, _*_, _/_, _%_, _^_, _≤_, _<_, max}
+use Prim.Native.Nat.{ℕ, suc, _+_, _-_, _*_, _/_, _%_, _^_, _≤_, _<_, max}
 use mathlib.Core.Path.{_≡_, refl, sym, ap, _∙_}
 use mathlib.Core.Bool.{Bool, true, false, _&&_, cond}
-use mathlib.Core.List.{List, [], _∷_, _++_}
+use mathlib.Core.List.{List, [], _∷_, _++_, map}
 use mathlib.Core.Option.{Option, none, some}
 use native.Mathlib.Nat.{mul-assoc, pow-succ', mul-le-mul-right, le-add-right, le-trans, zero-lt-suc, pow-le-pow-right}
 use native.Mathlib.Numerals.{add-one}
 use native.Mathlib.Omega.{arith}
 use borrow.Author.Tests.{lt-ltb, le-ltb, leb-true, ltb-true, ltb-false, eqb-true, eqb-false}
 use lib.Dec.{eqb, leb, ltb, leb·suc-suc}
-use lib.ListN.{length, getD, take, drop, length-append, length-drop}
+use lib.ListN.{length, getD, take, drop, replicate, length-append, length-drop}
 use lib.Seq.{take-append-seam, drop-append-seam, drop-drop}
 use Rattle.words.specs.ListsLaws.{by-test}
 use Rattle.bytes.specs.Bytes.{indexOf, indexAfter}
-use Rattle.words.specs.BytesLaws.{AreBytes}
 use Rattle.words.specs.Tables.{and-left, and-right}
-use Rattle.text.specs.Text.{digitValue, digitsFrom, decimalOf, bounded, numberOf, byteThen, hexOf, stored, decodedOf, comma, longer, fieldsOf, behindCommas, joined, sumLengths, fieldEnd, endsFrom, splitOf}
+use Rattle.text.specs.Text.{digitValue, digitsFrom, decimalOf, bounded, numberOf, byteThen, hexOf, decoded, decodedOf, comma, longer, fieldsOf, behindCommas, joined, sumLengths, fieldEnd, endsFrom, splitOf}
 use Rattle.text.specs.Steps.{allHex, pairsOf}
 use Rattle.text.specs.declared.numbers.Number.{Number}
-use Rattle.text.specs.declared.hexadecimal.Decoded.{Decoded}
 use Rattle.text.specs.declared.fields.Split.{Split}
 
 none-some : {A B : Type 0} {a : A} → _≡_ {A = Option A} none (some a) → B
@@ -43,6 +41,25 @@ digit-positive b n =
   where
     above : (b : ℕ) → (b ≡ 0x30 → ⊥) → 0x30 ≤ b → 0 < b - 0x30
     above b n l = by-test (eqb b 0x30) (λ t. absurd (n (eqb-true b 0x30 t))) (λ f. omega (arith, eqb-false b 0x30 f))
+
+-- the decimal digits stand together
+pub decimal-range : (b : ℕ) → leb 0x30 b && leb b 0x39 ≡ ltb (digitValue b) 10
+unfolding digitValue
+decimal-range b =
+    by-test (leb 0x30 b && leb b 0x39)
+    (λ t. let l = leb-true b 0x39 (and-right (leb 0x30 b) (leb b 0x39) t) in rw (t, lt-ltb (b - 0x30) 10 (omega arith)))
+    (λ f. by-test (leb 0x41 b && leb b 0x46)
+    (λ t. let l = from-range 0x41 b (leb b 0x46) t in rw (f, t, le-ltb (b - 0x37) 10 (omega arith)))
+    (λ g. by-test (leb 0x61 b && leb b 0x66)
+    (λ t. let l = from-range 0x61 b (leb b 0x66) t in rw (f, g, t, le-ltb (b - 0x57) 10 (omega arith)))
+    (λ h. rw (f, g, h))))
+
+-- a decimal digit's value, and where it stands
+pub decimal-value : (b : ℕ) → ltb (digitValue b) 10 ≡ true → (digitValue b ≡ b - 0x30) × ((0x30 ≤ b) × (b ≤ 0x39))
+unfolding digitValue
+decimal-value b e =
+    let t = decimal-range b ∙ e in
+    (rw t, (from-range 0x30 b (leb b 0x39) t, leb-true b 0x39 (and-right (leb 0x30 b) (leb b 0x39) t)))
 
 -- ---- decimal numbers
 
@@ -91,75 +108,61 @@ number-value s e = bounded-value (decimalOf s) e
 
 -- ---- hexadecimal bytes
 
-pair-tests : (e p q a : Bool) (x : ℕ) (s : List ℕ)
-    → cond (p && q) (byteThen x (cond (e && a) (some s) none)) none ≡ cond (e && (p && (q && a))) (some (x ∷ s)) none
+pair-tests : (e p q a : Bool) {x y : ℕ} (s : List ℕ) → (p && q ≡ true → x ≡ y)
+    → cond (p && q) (byteThen x (cond (e && a) (some s) none)) none ≡ cond (e && (p && (q && a))) (some (y ∷ s)) none
 unfolding byteThen
-pair-tests true true true true x s = refl
-pair-tests true true true false x s = refl
-pair-tests true true false a x s = refl
-pair-tests true false q a x s = refl
-pair-tests false true true a x s = refl
-pair-tests false true false a x s = refl
-pair-tests false false q a x s = refl
+pair-tests true true true true s same = rw (same refl)
+pair-tests true true true false s same = refl
+pair-tests true true false a s same = refl
+pair-tests true false q a s same = refl
+pair-tests false true true a s same = refl
+pair-tests false true false a s same = refl
+pair-tests false false q a s same = refl
 
 -- an even count of digits is the bytes of its pairs, and anything else is wrong
-pub hex-is : (s : List ℕ) → hexOf s ≡ cond (eqb (length s % 2) 0 && allHex s) (some (pairsOf s)) none
+pub hex-is : (s : List ℕ) → hexOf s ≡ cond (eqb (length s % 2) 0 && allHex (map digitValue s)) (some (pairsOf (map digitValue s))) none
 unfolding hexOf allHex pairsOf
 hex-is [] = refl
 hex-is (h ∷ []) = refl
 hex-is (h ∷ l ∷ s) =
     let e : suc (suc (length s)) % 2 ≡ length s % 2 = omega arith in
-    rw (e, hex-is s) (pair-tests (eqb (length s % 2) 0) (ltb (digitValue h) 16) (ltb (digitValue l) 16) (allHex s) (digitValue h * 16 + digitValue l) (pairsOf s))
+    rw (e, hex-is s)
+    (pair-tests (eqb (length s % 2) 0) (ltb (digitValue h) 16) (ltb (digitValue l) 16) (allHex (map digitValue s)) (pairsOf (map digitValue s))
+    (λ t. let high = ltb-true (digitValue h) 16 (and-left (ltb (digitValue h) 16) (ltb (digitValue l) 16) t) in
+    let low = ltb-true (digitValue l) 16 (and-right (ltb (digitValue h) 16) (ltb (digitValue l) 16) t) in
+    omega arith))
 
-pub length-pairs : (s : List ℕ) → length (pairsOf s) ≡ length s / 2
+pub length-pairs : (s : List ℕ) → length (pairsOf (map digitValue s)) ≡ length s / 2
 unfolding pairsOf
 length-pairs [] = refl
 length-pairs (h ∷ []) = refl
 length-pairs (h ∷ l ∷ s) = let e = length-pairs s in omega arith
 
-pairs-bytes : (s : List ℕ) → allHex s ≡ true → AreBytes (pairsOf s)
-unfolding allHex pairsOf
-pairs-bytes [] t i = omega arith
-pairs-bytes (h ∷ []) t i = omega arith
-pairs-bytes (h ∷ l ∷ s) t zero =
-    let rest = and-right (ltb (digitValue h) 16) (ltb (digitValue l) 16 && allHex s) t in
-    let high = ltb-true (digitValue h) 16 (and-left (ltb (digitValue h) 16) (ltb (digitValue l) 16 && allHex s) t) in
-    let low = ltb-true (digitValue l) 16 (and-left (ltb (digitValue l) 16) (allHex s) rest) in
-    omega arith
-pairs-bytes (h ∷ l ∷ s) t (suc i) =
-    pairs-bytes s (and-right (ltb (digitValue l) 16) (allHex s) (and-right (ltb (digitValue h) 16) (ltb (digitValue l) 16 && allHex s) t)) i
-
 module _ (s : List ℕ) {b : List ℕ} (e : hexOf s ≡ some b) where
-  hex-tests : eqb (length s % 2) 0 && allHex s ≡ true
-  hex-tests = by-test (eqb (length s % 2) 0 && allHex s) (λ t. t) (λ f. none-some (rw (hex-is, f) at e))
-
-  hex-pairs : b ≡ pairsOf s
-  hex-pairs = let h : some (pairsOf s) ≡ some b = rw (hex-is, hex-tests) at e in cc
+  hex-tests : eqb (length s % 2) 0 && allHex (map digitValue s) ≡ true
+  hex-tests = by-test (eqb (length s % 2) 0 && allHex (map digitValue s)) (λ t. t) (λ f. none-some (rw (hex-is, f) at e))
 
   -- two digits to a byte
   pub hex-length : length s ≡ 2 * length b
   hex-length =
-      let even = eqb-true (length s % 2) 0 (and-left (eqb (length s % 2) 0) (allHex s) hex-tests) in
-      let l : length b ≡ length s / 2 = rw hex-pairs (length-pairs s) in
+      let even = eqb-true (length s % 2) 0 (and-left (eqb (length s % 2) 0) (allHex (map digitValue s)) hex-tests) in
+      let h : some (pairsOf (map digitValue s)) ≡ some b = rw (hex-is, hex-tests) at e in
+      let p : pairsOf (map digitValue s) ≡ b = cc in
+      let l : length b ≡ length s / 2 = rw (← p) (length-pairs s) in
       omega arith
 
-  pub hex-bytes : AreBytes b
-  hex-bytes = rw hex-pairs (pairs-bytes s (and-right (eqb (length s % 2) 0) (allHex s) hex-tests))
+decoded-front : (o : Option (List ℕ)) → decoded o .ok ≡ true → (o ≡ some (take (decoded o .len) (decoded o .bytes))) × (decoded o .len ≤ length (decoded o .bytes))
+unfolding decoded
+decoded-front none e = let z : _≡_ {A = ℕ} 0 1 = cc in absurd (omega arith)
+decoded-front (some b) e =
+    by-test (leb (length b) 32)
+    (λ t. rw (t, take-append-seam b (replicate (32 - length b) 0), length-append) (refl, le-add-right (length b) (length (replicate {A = ℕ} (32 - length b) 0))))
+    (λ f. let h : false ≡ true = rw f at e in let z : _≡_ {A = ℕ} 0 1 = cc in absurd (omega arith))
 
-stored-front : (o : Option (List ℕ)) (out : List ℕ) {n : ℕ} → stored o out .answer ≡ Decoded.Bytes n → (o ≡ some (take n (stored o out .out))) × (n ≤ length out)
-unfolding stored
-stored-front none out e = let z : _≡_ {A = ℕ} 0 1 = cc in absurd (omega arith)
-stored-front (some b) out {n} e =
-    by-test (leb (length b) (length out))
-    (λ t. let h : Decoded.Bytes (length b) ≡ Decoded.Bytes n = rw t at e in
-    let same : length b ≡ n = cc in
-    let l = leb-true (length b) (length out) t in
-    (rw (t, ← same, take-append-seam b (drop (length b) out)), omega arith))
-    (λ f. let h : Decoded.Bad ≡ Decoded.Bytes n = rw f at e in let z : _≡_ {A = ℕ} 0 1 = cc in absurd (omega arith))
-
--- what `hex` decoded stands at the front of the output
-pub hex-decoded : (s out : List ℕ) {n : ℕ} → decodedOf s out .answer ≡ Decoded.Bytes n → (hexOf s ≡ some (take n (decodedOf s out .out))) × (n ≤ length out)
-hex-decoded s out e = stored-front (hexOf s) out e
+-- what `hex` decoded stands at the front of the bytes
+pub hex-decoded : (s : List ℕ) → decodedOf s .ok ≡ true
+    → (hexOf s ≡ some (take (decodedOf s .len) (decodedOf s .bytes))) × (decodedOf s .len ≤ length (decodedOf s .bytes))
+hex-decoded s e = decoded-front (hexOf s) e
 
 -- ---- fields
 

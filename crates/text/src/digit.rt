@@ -2,6 +2,7 @@
 ghost use mathlib.Core.Path.{_≡_};
 ghost use mathlib.Core.Bool.{cond};
 ghost use Prim.Native.Nat.{_-_};
+ghost use lib.Dec.{ltb};
 ghost use Rattle.text.specs.Text.{digitValue};
 
 // a less b, or 0.
@@ -15,6 +16,13 @@ fn pick(first: bool, a: u8, b: u8) -> u8
     ensures { λ r. ⌜ r ≡ cond first a b ⌝ }
 {
     if first { a } else { b }
+}
+
+// Whether b is a decimal digit, of the value b - 0x30.
+pub(crate) fn is_decimal(b: u8) -> bool
+    ensures { λ r. ⌜ r ≡ ltb (digitValue b) 10 ⌝ }
+{
+    (0x30 <= b) & (b <= 0x39)
 }
 
 // The value of a hexadecimal digit of either case, of which a decimal one is below 10; 16 for another byte.

@@ -1,62 +1,98 @@
 // Bytes in hexadecimal, two digits a byte.
 use crate::digit::digit;
+use bytes::copy;
 ghost use mathlib.Core.Path.{_≡_};
-ghost use mathlib.Core.Bool.{true};
-ghost use mathlib.Core.List.{_++_};
-ghost use Prim.Native.Nat.{_≤_, _/_};
-ghost use lib.ListN.{length, drop};
-ghost use Rattle.text.specs.Text.{decodedOf};
+ghost use mathlib.Core.List.{_++_, map};
+ghost use mathlib.Core.Option.{none};
+ghost use Prim.Native.Nat.{_-_, _≤_};
+ghost use lib.ListN.{length, replicate};
+ghost use Rattle.text.specs.Text.{digitValue, decoded, decodedOf};
 ghost use Rattle.text.specs.Steps.{allHex, pairsOf};
 
-// How many bytes were decoded, or digits that are wrong or too many for the output.
-pub enum Decoded {
-    Bytes(usize),
-    Bad,
+// Whether the digits were right and not too many, how many bytes they are, and the bytes with zeros behind them. Of other digits all is zero.
+pub struct Decoded {
+    pub ok: bool,
+    pub len: usize,
+    pub bytes: [u8; 32],
 }
 
-// Whether every byte of s is a hexadecimal digit.
-fn all_hex(s: &[u8]) -> bool
-    ensures { λ r. ⌜ r ≡ allHex (now (s .entry)) ⌝ }
+// The digits of s with zeros behind them. Loops over a count that the compiler knows take sixteen digits at a time.
+fn padded(s: &[u8]) -> [u8; 64]
+    requires { ⌜ length (now s) ≤ 64 ⌝ }
+    ensures { λ r. ⌜ r ≡ now (s .entry) ++ replicate (64 - length (now (s .entry))) 0x30 ⌝ }
+{
+    let mut digits = [0x30u8; 64];
+    copy(s, &mut digits);
+    digits
+}
+
+// The value of each digit.
+fn values_of(digits: [u8; 64]) -> [u8; 64]
+    ensures { λ r. ⌜ r ≡ map digitValue digits ⌝ }
+{
+    let mut values = [0u8; 64];
+    let mut i = 0;
+    while i < 64 {
+        values[i] = digit(digits[i]);
+        i += 1;
+    }
+    values
+}
+
+// Whether every value is that of a hexadecimal digit.
+fn all_hex(values: [u8; 64]) -> bool
+    ensures { λ r. ⌜ r ≡ allHex values ⌝ }
 {
     let mut right = true;
     let mut i = 0;
-    while i < s.len() {
-        right = right & (digit(s[i]) < 16);
+    while i < 64 {
+        right = right & (values[i] < 16);
         i += 1;
     }
     right
 }
 
-// The bytes of the pairs of digits in s, to the front of out.
-fn decode(s: &[u8], out: &mut [u8])
-    requires { ⌜ allHex (now s) ≡ true ⌝ }
-    requires { ⌜ length (now s) / 2 ≤ length (now out) ⌝ }
-    ensures { λ _. ⌜ now (out .exit) ≡ pairsOf (now (s .entry)) ++ drop (length (now (s .entry)) / 2) (now (out .entry)) ⌝ }
+// The bytes of the pairs of values, of which only the lower halves are taken.
+fn pairs_of(values: [u8; 64]) -> [u8; 32]
+    ensures { λ r. ⌜ r ≡ pairsOf values ⌝ }
 {
-    let n = s.len() / 2;
+    let mut bytes = [0u8; 32];
     let mut i = 0;
-    while i < n {
-        let high = digit(s[2 * i]);
-        let low = digit(s[2 * i + 1]);
-        out[i] = high * 16 + low;
+    while i < 32 {
+        bytes[i] = values[2 * i] % 16 * 16 + values[2 * i + 1] % 16;
         i += 1;
+    }
+    bytes
+}
+
+// What is answered to digits that are wrong or too many.
+fn wrong_digits() -> Decoded
+    ensures { λ r. ⌜ r ≡ decoded none ⌝ }
+{
+    Decoded {
+        ok: false,
+        len: 0,
+        bytes: [0u8; 32],
     }
 }
 
-// Decodes s to the front of out. Where the answer is Bad, out is as it was.
-pub fn hex(s: &[u8], out: &mut [u8]) -> Decoded
-    ensures { λ r. ⌜ r ≡ decodedOf (now (s .entry)) (now (out .entry)) .answer ⌝ }
-    ensures { λ _. ⌜ now (out .exit) ≡ decodedOf (now (s .entry)) (now (out .entry)) .out ⌝ }
+// The bytes of s, up to 32: no key has more.
+pub fn hex(s: &[u8]) -> Decoded
+    ensures { λ r. ⌜ r ≡ decodedOf (now (s .entry)) ⌝ }
 {
     if s.len() % 2 != 0 {
-        return Decoded::Bad;
+        return wrong_digits();
     }
-    if out.len() < s.len() / 2 {
-        return Decoded::Bad;
+    if 64 < s.len() {
+        return wrong_digits();
     }
-    if !all_hex(s) {
-        return Decoded::Bad;
+    let values = values_of(padded(s));
+    if !all_hex(values) {
+        return wrong_digits();
     }
-    decode(s, out);
-    Decoded::Bytes(s.len() / 2)
+    Decoded {
+        ok: true,
+        len: s.len() / 2,
+        bytes: pairs_of(values),
+    }
 }

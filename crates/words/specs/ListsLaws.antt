@@ -70,11 +70,14 @@ pub zero-end : (s : List ℕ) (i : ℕ) (clear : Bool) → length s ≤ i → cl
 unfolding allZero
 zero-end s i clear l = rw (drop-of-length-le s l) (and-true clear)
 
--- zeros after some of them
+-- what is left of copies after some of them
+pub drop-replicate : (k n a : ℕ) → drop k (replicate n a) ≡ replicate (n - k) a
+drop-replicate zero n a = let e : n - 0 ≡ n = omega arith in rw e
+drop-replicate (suc k) zero a = let e : 0 - suc k ≡ 0 = omega arith in rw e
+drop-replicate (suc k) (suc n) a = let e : suc n - suc k ≡ n - k = omega arith in rw e (drop-replicate k n a)
+
 pub drop-zeros : (k n : ℕ) → drop k (replicate {A = ℕ} n 0) ≡ replicate (n - k) 0
-drop-zeros zero n = let e : n - 0 ≡ n = omega arith in rw e
-drop-zeros (suc k) zero = let e : 0 - suc k ≡ 0 = omega arith in rw e
-drop-zeros (suc k) (suc n) = let e : suc n - suc k ≡ n - k = omega arith in rw e (drop-zeros k n)
+drop-zeros k n = drop-replicate k n 0
 
 -- a test comes out one way or the other
 pub by-test : {A : Type 0} (b : Bool) → (b ≡ true → A) → (b ≡ false → A) → A

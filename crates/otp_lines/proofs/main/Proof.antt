@@ -7,13 +7,13 @@ use Rattle.otp_lines.proofs.main.Statement.{statement}
 use Rattle.otp_lines.proofs.main.Tie as tie
 
 abbrev Inv-loop : tie.InvT-loop
-Inv-loop line₀ piece₀ out₀ n₀ turns₀ line piece out n turns = (length line ≡ 256) × ((length piece ≡ 16384) × ((length out ≡ 180224) × (n ≤ 257)))
+Inv-loop line₀ piece₀ out₀ n₀ turns₀ line piece out n turns = (length line ≡ 256) × ((length piece ≡ 65536) × ((length out ≡ 720896) × (n ≤ 257)))
 
 abbrev μ-loop : tie.MeasureT-loop
 μ-loop line₀ piece₀ out₀ n₀ turns₀ line piece out n turns = turns
 
 loop-holds : tie.Need-loop-holds Inv-loop μ-loop
-loop-holds c = (length-replicate {A = ℕ} 256 0, (length-replicate {A = ℕ} 16384 0, (length-replicate {A = ℕ} 180224 0, omega arith)))
+loop-holds c = (length-replicate {A = ℕ} 256 0, (length-replicate {A = ℕ} 65536 0, (length-replicate {A = ℕ} 720896 0, omega arith)))
 
 slice-aggregate-read : tie.Need-slice-aggregate-read Inv-loop μ-loop
 slice-aggregate-read c = search needs

@@ -1,29 +1,19 @@
-use borrow.Author.Needs.{needs}
-use mathlib.Core.Path.{refl, sym, ap, _∙_}
+use mathlib.Core.Path.{sym, ap, _∙_}
 use native.Mathlib.Omega.{arith}
-use lib.ListN.{replicate}
 use Rattle.password_lines.specs.Line.{printedOf}
 use Rattle.password_lines.specs.LineLaws.{key-decoded, answer-bad-key, answer-bad-time, answer-bad-count, answer-read}
+use borrow.Author.Needs.{needs}
 use Rattle.password_lines.proofs.fields.fields_answer.Statement.{statement}
 use Rattle.password_lines.proofs.fields.fields_answer.Tie as tie
 
-slice-aggregate-hex : tie.Need-slice-aggregate-hex
-slice-aggregate-hex c = search needs
-
 hex-requires : tie.Need-hex-requires
 hex-requires c κs = search needs
-
-enum-known-n : tie.Need-enum-known-n
-enum-known-n c = search needs
-
-enum-told : tie.Need-enum-told
-enum-told c = search needs
 
 refused-requires : tie.Need-refused-requires
 refused-requires c κs = search needs
 
 returns : tie.Need-returns
-returns c = c .refused .ensures ∙ answer-bad-key (c .before .before .before .before .before .before .before .before .before .before .before .before .args .key .now) (c .before .before .before .before .before .before .before .before .before .before .before .before .args .time .now) (c .before .before .before .before .before .before .before .before .before .before .before .before .args .count .now) (c .before .before .before .before .before .before .before .before .before .before .before .before .args .challenge .now) (c .before .before .before .before .before .before .before .before .before .before .before .before .args .algorithm .now) (c .before .before .before .before .before .before .before .before .before .before .before .before .args .digits .now) (replicate 32 0) refl (sym (c .before .enum-told .given .1) ∙ c .before .before .before .before .hex .ensures .0)
+returns c = let a = c .before .before .before .before .before .before .before .before .before .before .args in c .refused .ensures ∙ answer-bad-key (a .key .now) (a .time .now) (a .count .now) (a .challenge .now) (a .algorithm .now) (a .digits .now) (c .before .before .before .hex .ensures) (c .before .if1 .taken)
 
 factor-field-requires : tie.Need-factor-field-requires
 factor-field-requires c κs = search needs
@@ -31,14 +21,14 @@ factor-field-requires c κs = search needs
 enum-known-t : tie.Need-enum-known-t
 enum-known-t c = search needs
 
-enum-told-2 : tie.Need-enum-told-2
-enum-told-2 c = search needs
+enum-told : tie.Need-enum-told
+enum-told c = search needs
 
 refused-requires-2 : tie.Need-refused-requires-2
 refused-requires-2 c κs = search needs
 
 returns-2 : tie.Need-returns-2
-returns-2 c = c .refused2 .ensures ∙ answer-bad-time (c .before .before .before .before .before .before .before .before .before .before .before .before .before .before .before .before .args .key .now) (c .before .before .before .before .before .before .before .before .before .before .before .before .before .before .before .before .args .time .now) (c .before .before .before .before .before .before .before .before .before .before .before .before .before .before .before .before .args .count .now) (c .before .before .before .before .before .before .before .before .before .before .before .before .before .before .before .before .args .challenge .now) (c .before .before .before .before .before .before .before .before .before .before .before .before .before .before .before .before .args .algorithm .now) (c .before .before .before .before .before .before .before .before .before .before .before .before .before .before .before .before .args .digits .now) (key-decoded (c .before .before .before .before .before .before .before .before .before .before .before .before .before .before .before .before .args .key .now) (replicate 32 0) (c .before .before .before .before .before .before .before .before .hex .ensures .0) (c .before .before .before .before .before .before .before .before .hex .ensures .1) (c .before .before .before .before .before .n .given .1) .0) (sym (c .before .enum-told2 .given .1) ∙ c .before .before .before .factor-field .ensures)
+returns-2 c = let a = c .before .before .before .before .before .before .before .before .before .before .before .before .before .before .args in c .refused2 .ensures ∙ answer-bad-time (a .key .now) (a .time .now) (a .count .now) (a .challenge .now) (a .algorithm .now) (a .digits .now) (key-decoded (a .key .now) (c .before .before .before .before .before .before .before .hex .ensures) (c .before .before .before .before .before .if1 .left) .0) (sym (c .before .enum-told .given .1) ∙ c .before .before .before .factor-field .ensures)
 
 factor-field-requires-2 : tie.Need-factor-field-requires-2
 factor-field-requires-2 c κs = search needs
@@ -46,14 +36,14 @@ factor-field-requires-2 c κs = search needs
 enum-known-c : tie.Need-enum-known-c
 enum-known-c c = search needs
 
-enum-told-3 : tie.Need-enum-told-3
-enum-told-3 c = search needs
+enum-told-2 : tie.Need-enum-told-2
+enum-told-2 c = search needs
 
 refused-requires-3 : tie.Need-refused-requires-3
 refused-requires-3 c κs = search needs
 
 returns-3 : tie.Need-returns-3
-returns-3 c = c .refused3 .ensures ∙ answer-bad-count (c .before .before .before .before .before .before .before .before .before .before .before .before .before .before .before .before .before .before .before .before .args .key .now) (c .before .before .before .before .before .before .before .before .before .before .before .before .before .before .before .before .before .before .before .before .args .time .now) (c .before .before .before .before .before .before .before .before .before .before .before .before .before .before .before .before .before .before .before .before .args .count .now) (c .before .before .before .before .before .before .before .before .before .before .before .before .before .before .before .before .before .before .before .before .args .challenge .now) (c .before .before .before .before .before .before .before .before .before .before .before .before .before .before .before .before .before .before .before .before .args .algorithm .now) (c .before .before .before .before .before .before .before .before .before .before .before .before .before .before .before .before .before .before .before .before .args .digits .now) (key-decoded (c .before .before .before .before .before .before .before .before .before .before .before .before .before .before .before .before .before .before .before .before .args .key .now) (replicate 32 0) (c .before .before .before .before .before .before .before .before .before .before .before .before .hex .ensures .0) (c .before .before .before .before .before .before .before .before .before .before .before .before .hex .ensures .1) (c .before .before .before .before .before .before .before .before .before .n .given .1) .0) (sym (c .before .before .before .before .before .t .given .1) ∙ c .before .before .before .before .before .before .before .factor-field .ensures) (sym (c .before .enum-told3 .given .1) ∙ c .before .before .before .factor-field2 .ensures)
+returns-3 c = let a = c .before .before .before .before .before .before .before .before .before .before .before .before .before .before .before .before .before .before .args in c .refused3 .ensures ∙ answer-bad-count (a .key .now) (a .time .now) (a .count .now) (a .challenge .now) (a .algorithm .now) (a .digits .now) (key-decoded (a .key .now) (c .before .before .before .before .before .before .before .before .before .before .before .hex .ensures) (c .before .before .before .before .before .before .before .before .before .if1 .left) .0) (sym (c .before .before .before .before .before .t .given .1) ∙ c .before .before .before .before .before .before .before .factor-field .ensures) (sym (c .before .enum-told2 .given .1) ∙ c .before .before .before .factor-field2 .ensures)
 
 small-field-requires : tie.Need-small-field-requires
 small-field-requires c κs = search needs
@@ -68,32 +58,29 @@ part-password-text-start : tie.Need-part-password-text-start
 part-password-text-start c = search needs
 
 part-password-text-end : tie.Need-part-password-text-end
-part-password-text-end c = let l = key-decoded (c .before .before .before .before .before .before .before .before .before .before .before .before .before .before .before .before .before .before .before .before .before .before .before .args .key .now) (replicate 32 0) (c .before .before .before .before .before .before .before .before .before .before .before .before .before .before .before .hex .ensures .0) (c .before .before .before .before .before .before .before .before .before .before .before .before .before .before .before .hex .ensures .1) (c .before .before .before .before .before .before .before .before .before .before .before .before .n .given .1) .1 in omega (arith, c .before .before .before .before .before .before .before .before .before .before .before .before .before .before .before .hex .kept .1 .0)
+part-password-text-end c = let a = c .before .before .before .before .before .before .before .before .before .before .before .before .before .before .before .before .before .before .before .before .before .args in omega (arith, key-decoded (a .key .now) (c .before .before .before .before .before .before .before .before .before .before .before .before .before .before .hex .ensures) (c .before .before .before .before .before .before .before .before .before .before .before .before .if1 .left) .1)
 
 password-text-requires : tie.Need-password-text-requires
 password-text-requires c κs = search needs
 
 returns-4 : tie.Need-returns-4
-returns-4 c = c .password-text .ensures ∙ ap printedOf (answer-read (c .before .before .before .before .before .before .before .before .before .before .before .before .before .before .before .before .before .before .before .before .before .before .before .before .before .args .key .now) (c .before .before .before .before .before .before .before .before .before .before .before .before .before .before .before .before .before .before .before .before .before .before .before .before .before .args .time .now) (c .before .before .before .before .before .before .before .before .before .before .before .before .before .before .before .before .before .before .before .before .before .before .before .before .before .args .count .now) (c .before .before .before .before .before .before .before .before .before .before .before .before .before .before .before .before .before .before .before .before .before .before .before .before .before .args .challenge .now) (c .before .before .before .before .before .before .before .before .before .before .before .before .before .before .before .before .before .before .before .before .before .before .before .before .before .args .algorithm .now) (c .before .before .before .before .before .before .before .before .before .before .before .before .before .before .before .before .before .before .before .before .before .before .before .before .before .args .digits .now) (key-decoded (c .before .before .before .before .before .before .before .before .before .before .before .before .before .before .before .before .before .before .before .before .before .before .before .before .before .args .key .now) (replicate 32 0) (c .before .before .before .before .before .before .before .before .before .before .before .before .before .before .before .before .before .hex .ensures .0) (c .before .before .before .before .before .before .before .before .before .before .before .before .before .before .before .before .before .hex .ensures .1) (c .before .before .before .before .before .before .before .before .before .before .before .before .before .before .n .given .1) .0) (sym (c .before .before .before .before .before .before .before .before .before .before .t .given .1) ∙ c .before .before .before .before .before .before .before .before .before .before .before .before .factor-field .ensures) (sym (c .before .before .before .before .before .before .c .given .1) ∙ c .before .before .before .before .before .before .before .before .factor-field2 .ensures) (c .before .before .before .before .small-field .ensures) (c .before .before .before .small-field2 .ensures))
+returns-4 c = let a = c .before .before .before .before .before .before .before .before .before .before .before .before .before .before .before .before .before .before .before .before .before .before .before .args in c .password-text .ensures ∙ ap printedOf (answer-read (a .key .now) (a .time .now) (a .count .now) (a .challenge .now) (a .algorithm .now) (a .digits .now) (key-decoded (a .key .now) (c .before .before .before .before .before .before .before .before .before .before .before .before .before .before .before .before .hex .ensures) (c .before .before .before .before .before .before .before .before .before .before .before .before .before .before .if1 .left) .0) (sym (c .before .before .before .before .before .before .before .before .before .before .t .given .1) ∙ c .before .before .before .before .before .before .before .before .before .before .before .before .factor-field .ensures) (sym (c .before .before .before .before .before .before .c .given .1) ∙ c .before .before .before .before .before .before .before .before .factor-field2 .ensures) (c .before .before .before .before .small-field .ensures) (c .before .before .before .small-field2 .ensures))
 
 pub fields-answer-spec : {M : Type 1} → statement M
 fields-answer-spec =
     tie.close
     (tie.spec
-    slice-aggregate-hex
     hex-requires
-    enum-known-n
-    enum-told
     refused-requires
     returns
     factor-field-requires
     enum-known-t
-    enum-told-2
+    enum-told
     refused-requires-2
     returns-2
     factor-field-requires-2
     enum-known-c
-    enum-told-3
+    enum-told-2
     refused-requires-3
     returns-3
     small-field-requires

@@ -1,32 +1,54 @@
-use Rattle.text.specs.ReturnLaws.{hex-odd, hex-short, hex-wrong, hex-done}
-use mathlib.Core.Path.{sym, _∙_}
-use borrow.Author.Tests.{not-false}
+use Rattle.text.specs.ReturnLaws.{hex-odd, hex-long, hex-wrong, hex-done}
+use mathlib.Core.Path.{_∙_}
 use borrow.Author.Needs.{needs}
 use Rattle.text.proofs.hexadecimal.hex.Statement.{statement}
 use Rattle.text.proofs.hexadecimal.hex.Tie as tie
 
+wrong-digits-requires : tie.Need-wrong-digits-requires
+wrong-digits-requires c κs = search needs
+
 returns : tie.Need-returns
-returns c = hex-odd (c .before .before .before .args .s .now) (c .before .before .before .args .out .now) (c .if1 .taken)
+returns c = c .wrong-digits .ensures ∙ hex-odd (c .before .before .before .args .s .now) (c .before .if1 .taken)
+
+wrong-digits-requires-2 : tie.Need-wrong-digits-requires-2
+wrong-digits-requires-2 c κs = search needs
 
 returns-2 : tie.Need-returns-2
-returns-2 c = hex-short (c .before .before .before .before .args .s .now) (c .before .before .before .before .args .out .now) (c .before .if1 .left) (c .if2 .taken)
+returns-2 c = c .wrong-digits2 .ensures ∙ hex-long (c .before .before .before .before .args .s .now) (c .before .before .if1 .left) (c .before .if2 .taken)
+
+padded-requires : tie.Need-padded-requires
+padded-requires c κs = search needs
+
+values-of-requires : tie.Need-values-of-requires
+values-of-requires c κs = search needs
 
 all-hex-requires : tie.Need-all-hex-requires
 all-hex-requires c κs = search needs
 
+wrong-digits-requires-3 : tie.Need-wrong-digits-requires-3
+wrong-digits-requires-3 c κs = search needs
+
 returns-3 : tie.Need-returns-3
-returns-3 c = hex-wrong (c .before .before .before .before .before .before .args .s .now) (c .before .before .before .before .before .before .args .out .now) (c .before .before .before .if1 .left) (c .before .all-hex .ensures) (c .if3 .taken)
+returns-3 c = c .wrong-digits3 .ensures ∙ hex-wrong (c .before .before .before .before .before .before .before .before .args .s .now) (c .before .before .before .before .before .before .if1 .left) (c .before .before .before .before .before .if2 .left) (c .before .before .before .before .padded .ensures) (c .before .before .before .values-of .ensures) (c .before .before .all-hex .ensures) (c .before .if3 .taken)
 
-decode-requires : tie.Need-decode-requires
-decode-requires c κs = (sym (c .before .before .all-hex .ensures) ∙ not-false (c .before .before .all-hex .result) (c .before .if3 .left), c .before .before .before .if2 .left)
-
-same-length : tie.Need-same-length
-same-length c = search needs
+pairs-of-requires : tie.Need-pairs-of-requires
+pairs-of-requires c κs = search needs
 
 returns-4 : tie.Need-returns-4
-returns-4 c = hex-done (c .before .before .before .before .before .before .before .before .before .before .args .s .now) (c .before .before .before .before .before .before .before .before .before .before .args .out .now) (c .before .before .before .before .before .before .before .if1 .left) (c .before .before .before .before .before .all-hex .ensures) (c .before .before .before .before .before .before .if2 .left) (c .before .before .before .before .if3 .left) (c .before .before .decode .ensures)
+returns-4 c = hex-done (c .before .before .before .before .before .before .before .before .args .s .now) (c .before .before .before .before .before .before .if1 .left) (c .before .before .before .before .before .if2 .left) (c .before .before .before .before .padded .ensures) (c .before .before .before .values-of .ensures) (c .before .before .all-hex .ensures) (c .before .if3 .left) (c .pairs-of .ensures)
 
 pub hex-spec : {M : Type 1} → statement M
 hex-spec =
     tie.close
-    (tie.spec returns returns-2 all-hex-requires returns-3 decode-requires same-length returns-4)
+    (tie.spec
+    wrong-digits-requires
+    returns
+    wrong-digits-requires-2
+    returns-2
+    padded-requires
+    values-of-requires
+    all-hex-requires
+    wrong-digits-requires-3
+    returns-3
+    pairs-of-requires
+    returns-4)

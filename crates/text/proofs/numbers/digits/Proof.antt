@@ -2,7 +2,7 @@ use Prim.Native.Nat.{_-_}
 use mathlib.Core.Path.{ap, _∙_}
 use lib.ListN.{length}
 use Rattle.text.specs.Text.{bounded}
-use Rattle.text.specs.ReturnLaws.{Read, digits-wrong, digits-large, read-more, digits-end}
+use Rattle.text.specs.ReturnLaws.{Read, digits-wrong, digit-read, digits-large, digits-small, read-more, digits-end}
 use native.Mathlib.Omega.{arith}
 use borrow.Author.Needs.{needs}
 use Rattle.text.proofs.numbers.digits.Statement.{statement}
@@ -17,29 +17,32 @@ abbrev μ-loop : tie.MeasureT-loop
 loop-holds : tie.Need-loop-holds Inv-loop μ-loop
 loop-holds c = search needs
 
-shared-slice-read-digit : tie.Need-shared-slice-read-digit Inv-loop μ-loop
-shared-slice-read-digit c = search needs
+shared-slice-read-b : tie.Need-shared-slice-read-b Inv-loop μ-loop
+shared-slice-read-b c = search needs
 
-digit-requires : tie.Need-digit-requires Inv-loop μ-loop
-digit-requires c κs = search needs
-
-cast-d : tie.Need-cast-d Inv-loop μ-loop
-cast-d c = search needs
+is-decimal-requires : tie.Need-is-decimal-requires Inv-loop μ-loop
+is-decimal-requires c κs = search needs
 
 returns : tie.Need-returns Inv-loop μ-loop
-returns c = let l = c .before .before .before .before .loop in digits-wrong (c .before .before .before .before .before .before .args .s .now) (l .i) (l .value) (c .before .before .before .loop-test .taken) (c .before .digit .ensures) (omega arith) ∙ ap bounded (l .inv .rest)
+returns c = digits-wrong (c .before .before .before .before .before .before .args .s .now) (c .before .before .before .before .loop .i) (c .before .before .before .before .loop .value) (c .before .before .before .loop-test .taken) (c .before .is-decimal .ensures) (c .if1 .taken) ∙ ap bounded (c .before .before .before .before .loop .inv .rest)
 
-sub-if2 : tie.Need-sub-if2 Inv-loop μ-loop
-sub-if2 c = search needs
+sub-d : tie.Need-sub-d Inv-loop μ-loop
+sub-d c = digit-read (c .before .before .before .before .before .before .args .s .now) (c .before .before .before .before .loop .i) (c .before .before .before .before .loop .value) (c .before .before .before .loop-test .taken) (c .before .is-decimal .ensures) (c .if1 .left) .1 .0
+
+cast-d : tie.Need-cast-d Inv-loop μ-loop
+cast-d c = omega (arith, digit-read (c .before .before .before .before .before .before .args .s .now) (c .before .before .before .before .loop .i) (c .before .before .before .before .loop .value) (c .before .before .before .loop-test .taken) (c .before .is-decimal .ensures) (c .if1 .left) .1 .1)
+
+has-room-requires : tie.Need-has-room-requires Inv-loop μ-loop
+has-room-requires c κs = omega (arith, digit-read (c .before .before .before .before .before .before .args .s .now) (c .before .before .before .before .loop .i) (c .before .before .before .before .loop .value) (c .before .before .before .loop-test .taken) (c .before .is-decimal .ensures) (c .if1 .left) .1 .1)
 
 returns-2 : tie.Need-returns-2 Inv-loop μ-loop
-returns-2 c = let l = c .before .before .before .before .before .loop in digits-large (c .before .before .before .before .before .before .before .args .s .now) (l .i) (l .value) (c .before .before .before .before .loop-test .taken) (c .before .before .digit .ensures) (omega arith) (omega arith) ∙ ap bounded (l .inv .rest)
+returns-2 c = digits-large (c .before .before .before .before .before .before .before .before .args .s .now) (c .before .before .before .before .before .before .loop .i) (c .before .before .before .before .before .before .loop .value) (c .before .before .before .before .before .loop-test .taken) (c .before .before .before .is-decimal .ensures) (c .before .before .if1 .left) (c .before .has-room .ensures) (c .if2 .taken) ∙ ap bounded (c .before .before .before .before .before .before .loop .inv .rest)
 
 mul-value : tie.Need-mul-value Inv-loop μ-loop
-mul-value c = search needs
+mul-value c = omega (arith, digits-small (c .before .before .before .before .before .before .before .before .args .s .now) (c .before .before .before .before .before .before .loop .i) (c .before .before .before .before .before .before .loop .value) (c .before .before .before .before .before .loop-test .taken) (c .before .before .before .is-decimal .ensures) (c .before .before .if1 .left) (c .before .has-room .ensures) (c .if2 .left))
 
 add-value : tie.Need-add-value Inv-loop μ-loop
-add-value c = search needs
+add-value c = omega (arith, digits-small (c .before .before .before .before .before .before .before .before .args .s .now) (c .before .before .before .before .before .before .loop .i) (c .before .before .before .before .before .before .loop .value) (c .before .before .before .before .before .loop-test .taken) (c .before .before .before .is-decimal .ensures) (c .before .before .if1 .left) (c .before .has-room .ensures) (c .if2 .left))
 
 add-i : tie.Need-add-i Inv-loop μ-loop
 add-i c = search needs
@@ -48,7 +51,7 @@ loop-less : tie.Need-loop-less Inv-loop μ-loop
 loop-less c = search needs
 
 loop-again : tie.Need-loop-again Inv-loop μ-loop
-loop-again c = let l = c .before .before .before .before .before .loop in read-more (c .before .before .before .before .before .before .before .args .s .now) (l .i) (l .value) (c .before .before .before .before .loop-test .taken) (c .before .before .digit .ensures) (l .inv) (omega arith) (omega arith)
+loop-again c = read-more (c .before .before .before .before .before .before .before .before .args .s .now) (c .before .before .before .before .before .before .loop .i) (c .before .before .before .before .before .before .loop .value) (c .before .before .before .before .before .loop-test .taken) (c .before .before .before .is-decimal .ensures) (c .before .before .if1 .left) (c .before .has-room .ensures) (c .before .before .before .before .before .before .loop .inv) (c .if2 .left)
 
 returns-3 : tie.Need-returns-3 Inv-loop μ-loop
 returns-3 c = let l = c .before .loop in digits-end (c .before .before .before .args .s .now) (l .i) (l .value) (c .loop-test .left) (l .inv .fits) ∙ ap bounded (l .inv .rest)
@@ -60,11 +63,12 @@ digits-spec =
     Inv-loop
     μ-loop
     loop-holds
-    shared-slice-read-digit
-    digit-requires
-    cast-d
+    shared-slice-read-b
+    is-decimal-requires
     returns
-    sub-if2
+    sub-d
+    cast-d
+    has-room-requires
     returns-2
     mul-value
     add-value
