@@ -9,7 +9,7 @@
 #include <sys/resource.h>
 #include <time.h>
 
-enum { CONTESTANTS = 3 };
+enum { CONTESTANTS = 4 };
 
 // A function to measure; its input is varied by the call's number, and its result stands in `out`.
 struct contestant {
