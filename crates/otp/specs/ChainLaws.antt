@@ -10,8 +10,9 @@ use lib.Dec.{ltb, eqb}
 use lib.ListN.{length, take, drop, replicate, length-append, length-take, length-drop, length-replicate, replicate-append-replicate}
 use lib.Seq.{length-take-le, take-at, drop-append-le, take-append-le}
 use Rattle.words.specs.ListsLaws.{drop-zeros, by-test}
-use Rattle.words.specs.Bytes.{beAt, beBytes}
+use Rattle.words.specs.Bytes.{beAt, beBytes, put}
 use Rattle.words.specs.BytesLaws.{length-beBytes, beAt-split, beBytes-split, beBytes-mod}
+use Rattle.words.specs.PutLaws.{put-on}
 use Rattle.sm3.specs.Sm3.{sm3Of, sm3Answer}
 use Rattle.sm3.specs.declared.Hash.{Hash}
 use Rattle.sm4.specs.Sm4.{wordsOf, encryptWith, reversed, roundKeys, sm4Of, keysAnswer, encryptWordsAnswer, firstAnswer}
@@ -22,7 +23,6 @@ use Rattle.sm4.specs.declared.round.Quad.{Quad}
 use Rattle.sm4.specs.declared.chaining.First.{First}
 use Rattle.sm4.specs.declared.schedule.Keys.{Keys}
 use Rattle.otp.specs.Password.{blockAt, blockSum, outputOf, chained, filled, toBlocks, wordSum, cut, algorithmSm4}
-use Rattle.otp.specs.IdLaws.{put, put-on}
 
 -- the outputs under round keys
 unfoldable pub chain : List ℕ → List ℕ → ℕ → List ℕ

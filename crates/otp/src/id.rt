@@ -3,11 +3,10 @@ use crate::Factor;
 use bytes::copy;
 use words::bytes::put_be;
 ghost use mathlib.Core.Path.{_≡_};
-ghost use mathlib.Core.List.{_++_};
 ghost use Prim.Native.Nat.{_+_, _≤_, max};
-ghost use lib.ListN.{length, take, drop};
+ghost use lib.ListN.{length};
+ghost use Rattle.words.specs.Bytes.{put};
 ghost use Rattle.otp.specs.Password.{factorBytes, idOf};
-ghost use Rattle.otp.specs.IdLaws.{put};
 
 // Puts a factor of `width` bytes at at, and answers where it ends.
 fn put_factor(out: &mut [u8], at: usize, width: usize, factor: Factor) -> usize

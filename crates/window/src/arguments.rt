@@ -12,7 +12,8 @@ ghost use Rattle.window.specs.PasswordAtLaws.{inRange};
 
 const EVENT_TOKEN: u8 = 1;
 
-const CLOCKS: u64 = 0x100_0000_0000;
+// Every clock reading lies below.
+pub const CLOCKS: u64 = 0x100_0000_0000;
 
 fn sound(track: Track, clock: Seconds) -> bool
     ensures { λ r. ⌜ r ≡ soundTest track (clock .0) ⌝ }

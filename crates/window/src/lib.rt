@@ -5,15 +5,18 @@ mod matching;
 mod range;
 mod search;
 
+pub use arguments::CLOCKS;
 pub use arguments::checkable;
 pub use checks::check;
+pub use range::COUNTS;
+pub use range::FARTHEST;
 pub use range::Range;
 pub use range::candidates;
 pub use range::step_at;
 pub use search::Found;
 
 // The kind of a time token; an event token's is 1.
-pub(crate) const TIME_TOKEN: u8 = 0;
+pub const TIME_TOKEN: u8 = 0;
 
 // A clock reading, in seconds.
 pub struct Seconds(pub u64);

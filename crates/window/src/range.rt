@@ -9,9 +9,11 @@ ghost use Prim.Native.Nat.{_-_, _^_, _≤_, _<_, min, max};
 ghost use Rattle.window.specs.Window.{stepAt, timeWidth, eventWidth, Sound};
 ghost use Rattle.window.specs.WindowLaws.{timeFirst, timeEnd, eventFirst, eventEnd, firstStep, endStep};
 
-pub(crate) const FARTHEST: u64 = 600;
+// The farthest that a step may lie from T, and d from 0.
+pub const FARTHEST: u64 = 600;
 
-const COUNTS: u64 = 0x1_0000_0000;
+// Every event count lies below.
+pub const COUNTS: u64 = 0x1_0000_0000;
 
 // The steps from first up to, not including, end.
 pub struct Range {

@@ -1,7 +1,7 @@
 -- Numbers in bytes, the highest byte first ("stored numbers big-endian", document 01), at any width.
 use Prim.Native.Nat.{ℕ, zero, suc, _+_, _*_, _/_, _%_}
 use mathlib.Core.List.{List, [], _∷_, _++_}
-use lib.ListN.{getD, set}
+use lib.ListN.{length, getD, set, take, drop}
 
 -- the number in the k bytes of s from at on
 unfoldable pub beAt : ℕ → List ℕ → ℕ → ℕ
@@ -17,3 +17,7 @@ beBytes (suc k) x = beBytes k (x / 256) ++ (x % 256 ∷ [])
 unfoldable pub putBe : ℕ → List ℕ → ℕ → ℕ → List ℕ
 putBe zero s at x = s
 putBe (suc k) s at x = putBe k (set s (at + k) (x % 256)) at (x / 256)
+
+-- s with the bytes b from at on
+abbrev pub put : List ℕ → ℕ → List ℕ → List ℕ
+put s at b = take at s ++ (b ++ drop (at + length b) s)

@@ -1,15 +1,15 @@
 -- Laws of numbers in bytes, each for every width.
 use Prim.Native.Nat.{ℕ, zero, suc, _+_, _-_, _*_, _/_, _%_, _^_, _≤_, _<_}
-use mathlib.Core.Path.{_≡_, refl, sym, ap₂, _∙_}
+use mathlib.Core.Path.{_≡_, refl, sym, ap, ap₂, _∙_}
 use mathlib.Core.Logic.{_⊎_, inl, inr}
 use mathlib.Core.List.{List, [], _∷_, _++_, append-assoc, append-nil}
-use native.Mathlib.Nat.{add-suc, add-zero, pow-suc, mod-one, one-le-pow, pow-le-pow-right, lt-of-lt-of-le, le-trans, le-suc, zero-lt-suc, not-suc-le-zero, mul-assoc, mul-comm, div-one, div-div-eq-div-mul, mod-lt}
+use native.Mathlib.Nat.{add-suc, add-zero, zero-add, suc-add, add-assoc, pow-suc, mod-one, one-le-pow, pow-le-pow-right, lt-of-lt-of-le, le-trans, le-suc, zero-lt-suc, not-suc-le-zero, mul-assoc, mul-comm, div-one, div-div-eq-div-mul, mod-lt, mod-eq-of-lt}
 use native.Mathlib.Numerals.{add-one}
 use native.Mathlib.Omega.{arith}
 use lib.Arith.{digits-lt, mod-mul}
-use lib.ListN.{length, getD, set, take, drop, length-set, length-append, take-append-drop}
-use lib.Seq.{take-set-le, drop-set-lt, getD-set-same, getD-set-other, drop-cons, take-at, drop-at, drop-drop}
-use Rattle.words.specs.Bytes.{beAt, beBytes, putBe}
+use lib.ListN.{length, getD, set, take, drop, replicate, length-set, length-append, length-replicate, take-append-drop}
+use lib.Seq.{length-take-le, take-set-le, drop-set-lt, getD-set-same, getD-set-other, set-getD, drop-cons, take-at, drop-at, drop-drop}
+use Rattle.words.specs.Bytes.{beAt, beBytes, put, putBe}
 
 -- every element is a byte
 abbrev pub AreBytes : List ℕ → Type 0
@@ -69,11 +69,24 @@ putBe-is (suc k) s at x h =
         drop-cons (set s j v) j 0 (rw length-set l)
         ∙ ap₂ (λ (y : ℕ) (q : List ℕ). y ∷ q) (getD-set-same s j v 0 l) (drop-set-lt (suc j) s j v (omega arith))
 
+pub putBe-put : (k : ℕ) (s : List ℕ) (at x : ℕ) → at + k ≤ length s → putBe k s at x ≡ put s at (beBytes k x)
+putBe-put k s at x h = putBe-is k s at x h ∙ rw (length-beBytes k x)
+
 -- a store where k bytes stand between two lists
 pub putBe-seam : (k : ℕ) (p q t : List ℕ) (at x : ℕ) → length p ≡ at → length q ≡ k → putBe k (p ++ (q ++ t)) at x ≡ p ++ (beBytes k x ++ t)
 putBe-seam k p q t at x l m =
     putBe-is k (p ++ (q ++ t)) at x (rw (length-append, length-append, l, m) (omega arith))
     ∙ ap₂ (λ (a b : List ℕ). a ++ (beBytes k x ++ b)) (take-at p (q ++ t) at l) (rw (← drop-drop k at, drop-at p (q ++ t) at l) (drop-at q t k m))
+
+-- a store behind a list
+pub set-behind : (p s : List ℕ) (n v : ℕ) {at : ℕ} → length p ≡ at → set (p ++ s) (at + n) v ≡ p ++ set s n v
+set-behind [] s n v e = rw (← e, zero-add n)
+set-behind (y ∷ p) s n v e = rw (← e, suc-add) (ap (λ (t : List ℕ). y ∷ t) (set-behind p s n v refl))
+
+pub putBe-behind : (k : ℕ) (p s : List ℕ) (n x : ℕ) {at : ℕ} → length p ≡ at → putBe k (p ++ s) (at + n) x ≡ p ++ putBe k s n x
+unfolding putBe
+putBe-behind zero p s n x e = refl
+putBe-behind (suc k) p s n x {at} e = rw (add-assoc at n k, set-behind p s (n + k) (x % 256) e) (putBe-behind k p (set s (n + k) (x % 256)) n (x / 256) e)
 
 -- a store elsewhere leaves an element
 pub getD-putBe : (k : ℕ) (s : List ℕ) (at x i : ℕ) → (i < at) ⊎ (at + k ≤ i) → getD (putBe k s at x) i 0 ≡ getD s i 0
@@ -93,6 +106,30 @@ beAt-putBe (suc k) s at x h =
     (beAt-putBe k (set s (at + k) (x % 256)) at (x / 256) (rw length-set (omega arith)))
     (getD-putBe k (set s (at + k) (x % 256)) at (x / 256) (at + k) (inr (omega arith)) ∙ getD-set-same s (at + k) (x % 256) 0 (omega arith))
     ∙ rw pow-suc (sym (mod-mul x (one-le-pow k 256 (zero-lt-suc 255)) (zero-lt-suc 255)))
+
+-- the bytes of a number are read as that number
+pub beAt-beBytes : (k : ℕ) (p q : List ℕ) (at x : ℕ) → length p ≡ at → x < 256 ^ k → beAt k (p ++ (beBytes k x ++ q)) at ≡ x
+beAt-beBytes k p q at x l h =
+    rw (← putBe-seam k p (replicate k 0) q at x l (length-replicate k 0))
+    (beAt-putBe k (p ++ (replicate k 0 ++ q)) at x (rw (length-append, length-append, length-replicate, l) (omega arith)) ∙ mod-eq-of-lt h)
+
+-- storing the number that is there changes nothing
+pub putBe-beAt : (k : ℕ) (s : List ℕ) (at : ℕ) → AreBytes s → putBe k s at (beAt k s at) ≡ s
+unfolding beAt putBe
+putBe-beAt zero s at h = refl
+putBe-beAt (suc k) s at h =
+    let b = h (at + k) in
+    let q : (beAt k s at * 256 + getD s (at + k) 0) / 256 ≡ beAt k s at = omega arith in
+    let r : (beAt k s at * 256 + getD s (at + k) 0) % 256 ≡ getD s (at + k) 0 = omega arith in
+    rw (r, q, set-getD s (at + k) 0) (putBe-beAt k s at h)
+
+-- the bytes of the number that is read
+pub beBytes-beAt : (k : ℕ) (s : List ℕ) (at : ℕ) → AreBytes s → at + k ≤ length s → beBytes k (beAt k s at) ≡ take k (drop at s)
+beBytes-beAt k s at h l =
+    let b = beBytes k (beAt k s at) in
+    let whole : s ≡ take at s ++ (b ++ drop (at + k) s) = sym (putBe-beAt k s at h) ∙ putBe-is k s at (beAt k s at) l in
+    let back : drop at (take at s ++ (b ++ drop (at + k) s)) ≡ b ++ drop (at + k) s = drop-at (take at s) (b ++ drop (at + k) s) at (length-take-le at s (omega arith)) in
+    sym (ap (λ (t : List ℕ). take k (drop at t)) whole ∙ ap (take k) back ∙ take-at b (drop (at + k) s) k (length-beBytes k (beAt k s at)))
 
 -- ---- a number in two parts
 

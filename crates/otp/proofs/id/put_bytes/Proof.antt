@@ -1,7 +1,7 @@
 use borrow.Author.Needs.{needs}
 use Prim.Native.Nat.{_-_}
 use mathlib.Core.Path.{refl}
-use Rattle.otp.specs.IdLaws.{put-part}
+use Rattle.words.specs.PutLaws.{put-part}
 use Rattle.otp.proofs.id.put_bytes.Statement.{statement}
 use Rattle.otp.proofs.id.put_bytes.Tie as tie
 

@@ -1,0 +1,142 @@
+use Rattle.row.specs.Row.{rowAt}
+use borrow.Author.Needs.{needs}
+use Rattle.row.proofs.reading.load_numbers.Statement.{statement}
+use Rattle.row.proofs.reading.load_numbers.Tie as tie
+
+add-t5 : tie.Need-add-t5
+add-t5 c = search needs
+
+shared-slice-read-t7 : tie.Need-shared-slice-read-t7
+shared-slice-read-t7 c = search needs
+
+add-t8 : tie.Need-add-t8
+add-t8 c = search needs
+
+shared-slice-read-t10 : tie.Need-shared-slice-read-t10
+shared-slice-read-t10 c = search needs
+
+add-t11 : tie.Need-add-t11
+add-t11 c = search needs
+
+shared-slice-read-t13 : tie.Need-shared-slice-read-t13
+shared-slice-read-t13 c = search needs
+
+add-t5-2 : tie.Need-add-t5-2
+add-t5-2 c = search needs
+
+shared-slice-read-t13-2 : tie.Need-shared-slice-read-t13-2
+shared-slice-read-t13-2 c = search needs
+
+add-be-at : tie.Need-add-be-at
+add-be-at c = search needs
+
+be-at-requires : tie.Need-be-at-requires
+be-at-requires c κs = search needs
+
+add-be-at-2 : tie.Need-add-be-at-2
+add-be-at-2 c = search needs
+
+be-at-requires-2 : tie.Need-be-at-requires-2
+be-at-requires-2 c κs = search needs
+
+cast-t18 : tie.Need-cast-t18
+cast-t18 c = search needs
+
+add-t5-3 : tie.Need-add-t5-3
+add-t5-3 c = search needs
+
+shared-slice-read-t10-2 : tie.Need-shared-slice-read-t10-2
+shared-slice-read-t10-2 c = search needs
+
+add-t11-2 : tie.Need-add-t11-2
+add-t11-2 c = search needs
+
+shared-slice-read-t7-2 : tie.Need-shared-slice-read-t7-2
+shared-slice-read-t7-2 c = search needs
+
+add-t8-2 : tie.Need-add-t8-2
+add-t8-2 c = search needs
+
+shared-slice-read-t13-3 : tie.Need-shared-slice-read-t13-3
+shared-slice-read-t13-3 c = search needs
+
+add-t23 : tie.Need-add-t23
+add-t23 c = search needs
+
+shared-slice-read-t25 : tie.Need-shared-slice-read-t25
+shared-slice-read-t25 c = search needs
+
+add-be-at-3 : tie.Need-add-be-at-3
+add-be-at-3 c = search needs
+
+be-at-requires-3 : tie.Need-be-at-requires-3
+be-at-requires-3 c κs = search needs
+
+add-be-at-4 : tie.Need-add-be-at-4
+add-be-at-4 c = search needs
+
+be-at-requires-4 : tie.Need-be-at-requires-4
+be-at-requires-4 c κs = search needs
+
+cast-t28 : tie.Need-cast-t28
+cast-t28 c = search needs
+
+add-be-at-5 : tie.Need-add-be-at-5
+add-be-at-5 c = search needs
+
+be-at-requires-5 : tie.Need-be-at-requires-5
+be-at-requires-5 c κs = search needs
+
+add-be-at-6 : tie.Need-add-be-at-6
+add-be-at-6 c = search needs
+
+be-at-requires-6 : tie.Need-be-at-requires-6
+be-at-requires-6 c κs = search needs
+
+add-be-at-7 : tie.Need-add-be-at-7
+add-be-at-7 c = search needs
+
+be-at-requires-7 : tie.Need-be-at-requires-7
+be-at-requires-7 c κs = search needs
+
+returns : tie.Need-returns
+unfolding rowAt
+returns c = rw (c .before .before .before .before .before .before .before .before .before .before .be-at .ensures .0, c .before .before .before .before .before .before .before .before .before .be-at2 .ensures .0, c .before .before .before .before .be-at3 .ensures .0, c .before .before .before .be-at4 .ensures .0, c .before .before .be-at5 .ensures .0, c .before .be-at6 .ensures .0, c .be-at7 .ensures .0)
+
+pub load-numbers-spec : {M : Type 1} → statement M
+load-numbers-spec =
+    tie.close
+    (tie.spec
+    add-t5
+    shared-slice-read-t7
+    add-t8
+    shared-slice-read-t10
+    add-t11
+    shared-slice-read-t13
+    add-t5-2
+    shared-slice-read-t13-2
+    add-be-at
+    be-at-requires
+    add-be-at-2
+    be-at-requires-2
+    cast-t18
+    add-t5-3
+    shared-slice-read-t10-2
+    add-t11-2
+    shared-slice-read-t7-2
+    add-t8-2
+    shared-slice-read-t13-3
+    add-t23
+    shared-slice-read-t25
+    add-be-at-3
+    be-at-requires-3
+    add-be-at-4
+    be-at-requires-4
+    cast-t28
+    add-be-at-5
+    be-at-requires-5
+    add-be-at-6
+    be-at-requires-6
+    add-be-at-7
+    be-at-requires-7
+    returns)

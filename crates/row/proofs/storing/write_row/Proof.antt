@@ -1,0 +1,33 @@
+use Rattle.row.specs.StoreLaws.{row-written}
+use borrow.Author.Needs.{needs}
+use Rattle.row.proofs.storing.write_row.Statement.{statement}
+use Rattle.row.proofs.storing.write_row.Tie as tie
+
+write-head-requires : tie.Need-write-head-requires
+write-head-requires c κs = search needs
+
+write-key-requires : tie.Need-write-key-requires
+write-key-requires c κs = search needs
+
+write-steps-requires : tie.Need-write-steps-requires
+write-steps-requires c κs = search needs
+
+write-times-requires : tie.Need-write-times-requires
+write-times-requires c κs = search needs
+
+same-length : tie.Need-same-length
+same-length c = search needs
+
+returns : tie.Need-returns
+returns c = row-written (c .before .before .before .before .before .before .before .before .before .before .before .before .before .before .before .before .before .before .args .table .now) (c .before .before .before .before .before .before .before .before .before .before .before .before .before .before .before .before .before .before .args .at) (c .before .before .before .before .before .before .before .before .before .before .before .before .before .before .before .before .before .before .pre .0) (c .before .before .before .before .before .before .before .before .before .before .before .before .before .before .before .before .before .before .args .row) (c .before .before .before .before .before .before .before .before .before .before .before .before .before .before .before .before .before .before .args .key .now) (c .before .before .before .before .before .before .before .before .before .before .before .before .before .before .before .before .before .before .pre .1) (c .before .before .before .before .before .before .before .before .before .before .before .before .before .before .write-head .ensures) (c .before .before .before .before .before .before .before .before .before .before .write-key .ensures) (c .before .before .before .before .before .before .write-steps .ensures) (c .before .before .write-times .ensures)
+
+pub write-row-spec : {M : Type 1} → statement M
+write-row-spec =
+    tie.close
+    (tie.spec
+    write-head-requires
+    write-key-requires
+    write-steps-requires
+    write-times-requires
+    same-length
+    returns)

@@ -1,0 +1,104 @@
+-- The row (document 01, Part 4): its layout, and when it is well formed. A table is a list of bytes; a row stands at a place in it.
+use Prim.Native.Nat.{ℕ, _+_, _*_, _^_}
+use mathlib.Core.Bool.{Bool, true, _&&_, _||_, cond}
+use mathlib.Core.List.{List, [], _∷_, _++_}
+use lib.Dec.{eqb, leb, ltb}
+use lib.ListN.{getD, take, drop, replicate}
+use Rattle.words.specs.Bytes.{beAt, beBytes}
+use Rattle.words.specs.Lists.{allZero}
+use Rattle.window.specs.Window.{timeToken, farthest}
+use Rattle.row.specs.declared.Row.{Row}
+
+-- the bytes of a row; request 6 of document 02 will widen it
+abbrev pub rowBytes : ℕ
+rowBytes = 96
+
+-- the bytes of a row's key, zeros behind it included
+abbrev pub keyBytes : ℕ
+keyBytes = 32
+
+-- ---- the layout
+
+-- the numbers of the row at a place
+unfoldable pub rowAt : List ℕ → ℕ → Row
+rowAt s at =
+    record {
+      state = getD s (at + 0) 0;
+      track = record {
+        rule = record { kind = getD s (at + 1) 0; algorithm = getD s (at + 2) 0; digits = getD s (at + 3) 0 };
+        period = getD s (at + 4) 0;
+        next = record { 0 = beAt 8 s (at + 48) };
+        offset = record { 0 = beAt 2 s (at + 56) };
+      };
+      limit = getD s (at + 5) 0;
+      errors = getD s (at + 6) 0;
+      length = getD s (at + 7) 0;
+      serial = beAt 8 s (at + 8);
+      wait = beAt 4 s (at + 60);
+      expiry = record { 0 = beAt 8 s (at + 64) };
+      locked = record { 0 = beAt 8 s (at + 72) };
+      used = record { 0 = beAt 8 s (at + 80) };
+    }
+
+-- the 32 bytes at offset 16
+abbrev pub keyAt : List ℕ → ℕ → List ℕ
+keyAt s at = take keyBytes (drop (at + 16) s)
+
+-- the first 8 bytes, a number each
+abbrev pub firstBytes : Row → List ℕ
+firstBytes r =
+    r .state ∷ r .track .rule .kind ∷ r .track .rule .algorithm ∷ r .track .rule .digits ∷ r .track .period ∷ r .limit ∷ r .errors ∷ r .length ∷ []
+
+-- the 16 bytes before the key
+unfoldable pub beforeKey : Row → List ℕ
+beforeKey r = firstBytes r ++ beBytes 8 (r .serial)
+
+-- the 12 bytes behind the key: the first unused step and the offset
+unfoldable pub stepBytes : Row → List ℕ
+stepBytes r = beBytes 8 (r .track .next .0) ++ (beBytes 2 (r .track .offset .0) ++ replicate 2 0)
+
+-- the last 36 bytes: the wait and the clock readings
+unfoldable pub timeBytes : Row → List ℕ
+timeBytes r = beBytes 4 (r .wait) ++ (beBytes 8 (r .expiry .0) ++ (beBytes 8 (r .locked .0) ++ (beBytes 8 (r .used .0) ++ replicate 8 0)))
+
+-- the 96 bytes of a row with a key of 32 bytes
+unfoldable pub render : Row → List ℕ → List ℕ
+render r key = beforeKey r ++ (key ++ (stepBytes r ++ timeBytes r))
+
+-- ---- well formed
+
+abbrev pub isTime : Row → Bool
+isTime r = eqb (r .track .rule .kind) timeToken
+
+abbrev pub allOf : List Bool → Bool
+allOf [] = true
+allOf (b ∷ bs) = b && allOf bs
+
+-- Part 4's list in its order; errors and serial take every value
+unfoldable pub numberTests : Row → List Bool
+numberTests r =
+    leb (r .state) 6
+    ∷ leb (r .track .rule .kind) 1
+    ∷ (eqb (r .track .rule .algorithm) 3 || eqb (r .track .rule .algorithm) 4)
+    ∷ (leb 6 (r .track .rule .digits) && leb (r .track .rule .digits) 10)
+    ∷ cond (isTime r) (leb 1 (r .track .period) && leb (r .track .period) 60) (eqb (r .track .period) 0)
+    ∷ (leb 1 (r .limit) && leb (r .limit) 10)
+    ∷ (leb 16 (r .length) && leb (r .length) keyBytes)
+    ∷ leb (r .track .next .0) (cond (isTime r) (2 ^ 40 + farthest) (2 ^ 32))
+    ∷ cond (isTime r) (leb (r .track .offset .0) (2 * farthest)) (eqb (r .track .offset .0) farthest)
+    ∷ (leb 60 (r .wait) && leb (r .wait) 86400)
+    ∷ leb (r .expiry .0) (2 ^ 40)
+    ∷ (ltb (r .locked .0) (2 ^ 40) && (eqb (r .state) 3 || eqb (r .locked .0) 0))
+    ∷ ltb (r .used .0) (2 ^ 40)
+    ∷ []
+
+unfoldable pub numbersOk : Row → Bool
+numbersOk r = allOf (numberTests r)
+
+-- the zeros of the row at a place: behind the key, and the spare bytes at 58 and 88
+unfoldable pub zerosOk : List ℕ → ℕ → Bool
+zerosOk s at =
+    (allZero (drop (getD s (at + 7) 0) (keyAt s at)) && allZero (take 2 (drop (at + 58) s))) && allZero (take 8 (drop (at + 88) s))
+
+unfoldable pub wellFormed : List ℕ → ℕ → Bool
+wellFormed s at = numbersOk (rowAt s at) && zerosOk s at

@@ -1,0 +1,30 @@
+// The row of a token and the table of rows (document 01, Part 4).
+mod layout;
+mod ranges;
+mod reading;
+mod storing;
+
+pub use reading::Place;
+pub use reading::RowRead;
+pub use reading::find_empty;
+pub use reading::find_row;
+pub use reading::read_row;
+pub use storing::store_row;
+pub use storing::wipe_key;
+pub use storing::write_row;
+use window::Seconds;
+use window::Track;
+
+// The numbers of a row. The key stays in the table.
+pub struct Row {
+    pub state: u8,
+    pub track: Track,
+    pub limit: u8,
+    pub errors: u8,
+    pub length: u8,
+    pub serial: u64,
+    pub wait: u32,
+    pub expiry: Seconds,
+    pub locked: Seconds,
+    pub used: Seconds,
+}

@@ -1,0 +1,155 @@
+// What is read of a row: its place, its numbers, and whether it is well formed (document 01, Part 4).
+use crate::Row;
+use crate::layout::ALGORITHM;
+use crate::layout::DIGITS;
+use crate::layout::ERRORS;
+use crate::layout::EXPIRY;
+use crate::layout::GAP;
+use crate::layout::KEY;
+use crate::layout::KIND;
+use crate::layout::LENGTH;
+use crate::layout::LIMIT;
+use crate::layout::LOCKED;
+use crate::layout::NEXT;
+use crate::layout::OFFSET;
+use crate::layout::PERIOD;
+use crate::layout::ROW_BYTES;
+use crate::layout::SERIAL;
+use crate::layout::SPARE;
+use crate::layout::STATE;
+use crate::layout::USED;
+use crate::layout::WAIT;
+use crate::ranges::numbers_ok;
+use window::Offset;
+use window::Rule;
+use window::Seconds;
+use window::Step;
+use window::Track;
+use words::bytes::be_at;
+use words::bytes::zeros;
+ghost use mathlib.Core.Path.{_≡_};
+ghost use Prim.Native.Nat.{_+_, _≤_};
+ghost use lib.ListN.{length, getD};
+ghost use Rattle.row.specs.Row.{rowAt, zerosOk};
+ghost use Rattle.row.specs.Table.{findRow, findEmpty, readRow};
+ghost use Rattle.row.specs.FindLaws.{passes, firstPassing};
+
+// The place of a row in the table.
+pub enum Place {
+    At(usize),
+    Nowhere,
+}
+
+// A well-formed row's place and numbers, or that the row is not well formed.
+pub enum RowRead {
+    Good(usize, Row),
+    Damaged,
+}
+
+// What a row is looked for by: a serial, or that it is empty.
+enum Wanted {
+    Serial(u64),
+    Empty,
+}
+
+fn passes(table: &[u8], wanted: Wanted, at: usize) -> bool
+    requires { ⌜ at + 96 ≤ length (now table) ⌝ }
+    ensures { λ r. ⌜ r ≡ passes (now (table .entry)) wanted at ⌝ }
+{
+    let state = table[at + STATE];
+    match wanted {
+        Wanted::Serial(serial) => (state != 0) & (be_at(table, at + SERIAL, 8) == serial),
+        Wanted::Empty => state == 0,
+    }
+}
+
+fn first_passing(table: &[u8], wanted: Wanted) -> Place
+    ensures { λ r. ⌜ r ≡ firstPassing (now (table .entry)) wanted ⌝ }
+{
+    let mut at = 0;
+    let mut left = table.len() / ROW_BYTES;
+    loop {
+        if left == 0 {
+            break Place::Nowhere;
+        }
+        if passes(table, wanted, at) {
+            break Place::At(at);
+        }
+        at += ROW_BYTES;
+        left -= 1;
+    }
+}
+
+// The serial's row: the first one not empty that has it.
+pub fn find_row(table: &[u8], serial: u64) -> Place
+    ensures { λ r. ⌜ r ≡ findRow (now (table .entry)) serial ⌝ }
+{
+    first_passing(table, Wanted::Serial(serial))
+}
+
+// The first empty row.
+pub fn find_empty(table: &[u8]) -> Place
+    ensures { λ r. ⌜ r ≡ findEmpty (now (table .entry)) ⌝ }
+{
+    first_passing(table, Wanted::Empty)
+}
+
+// The numbers of the row at a place.
+fn load_numbers(table: &[u8], at: usize) -> Row
+    requires { ⌜ at + 96 ≤ length (now table) ⌝ }
+    ensures { λ r. ⌜ r ≡ rowAt (now (table .entry)) at ⌝ }
+{
+    let rule = Rule {
+        kind: table[at + KIND],
+        algorithm: table[at + ALGORITHM],
+        digits: table[at + DIGITS],
+    };
+    let track = Track {
+        rule,
+        period: table[at + PERIOD],
+        next: Step(be_at(table, at + NEXT, 8)),
+        offset: Offset(be_at(table, at + OFFSET, 2) as u16),
+    };
+    Row {
+        state: table[at + STATE],
+        track,
+        limit: table[at + LIMIT],
+        errors: table[at + ERRORS],
+        length: table[at + LENGTH],
+        serial: be_at(table, at + SERIAL, 8),
+        wait: be_at(table, at + WAIT, 4) as u32,
+        expiry: Seconds(be_at(table, at + EXPIRY, 8)),
+        locked: Seconds(be_at(table, at + LOCKED, 8)),
+        used: Seconds(be_at(table, at + USED, 8)),
+    }
+}
+
+// Whether zeros stand behind the key and in the bytes that hold nothing.
+fn zeros_ok(table: &[u8], at: usize) -> bool
+    requires { ⌜ at + 96 ≤ length (now table) ⌝ }
+    requires { ⌜ getD (now table) (at + 7) 0 ≤ 32 ⌝ }
+    ensures { λ r. ⌜ r ≡ zerosOk (now (table .entry)) at ⌝ }
+{
+    let key = at + KEY + table[at + LENGTH] as usize;
+    let next = at + NEXT;
+    let gap = at + GAP;
+    let wait = at + WAIT;
+    let spare = at + SPARE;
+    let end = at + ROW_BYTES;
+    zeros(&table[key..next]) & zeros(&table[gap..wait]) & zeros(&table[spare..end])
+}
+
+// A call goes on only with a well-formed row.
+pub fn read_row(table: &[u8], at: usize) -> RowRead
+    requires { ⌜ at + 96 ≤ length (now table) ⌝ }
+    ensures { λ r. ⌜ r ≡ readRow (now (table .entry)) at ⌝ }
+{
+    let row = load_numbers(table, at);
+    if !numbers_ok(row) {
+        return RowRead::Damaged;
+    }
+    if !zeros_ok(table, at) {
+        return RowRead::Damaged;
+    }
+    RowRead::Good(at, row)
+}

@@ -1,0 +1,142 @@
+// What is stored in a row (document 01, Part 4).
+use crate::Row;
+use crate::layout::ALGORITHM;
+use crate::layout::DIGITS;
+use crate::layout::ERRORS;
+use crate::layout::EXPIRY;
+use crate::layout::GAP;
+use crate::layout::KEY;
+use crate::layout::KIND;
+use crate::layout::LENGTH;
+use crate::layout::LIMIT;
+use crate::layout::LOCKED;
+use crate::layout::NEXT;
+use crate::layout::OFFSET;
+use crate::layout::PERIOD;
+use crate::layout::ROW_BYTES;
+use crate::layout::SERIAL;
+use crate::layout::SPARE;
+use crate::layout::STATE;
+use crate::layout::USED;
+use crate::layout::WAIT;
+use bytes::copy;
+use words::bytes::put_be;
+ghost use mathlib.Core.Path.{_≡_};
+ghost use Prim.Native.Nat.{_+_, _≤_};
+ghost use lib.ListN.{length, replicate};
+ghost use Rattle.words.specs.Bytes.{put};
+ghost use Rattle.row.specs.Row.{beforeKey, stepBytes, timeBytes};
+ghost use Rattle.row.specs.Table.{stepsStored, readingsStored, storeRow, wipeKey, zeroFilled, writeRow};
+
+fn store_steps(table: &mut [u8], at: usize, row: Row)
+    requires { ⌜ at + 96 ≤ length (now table) ⌝ }
+    ensures { λ _. ⌜ now (table .exit) ≡ stepsStored (now (table .entry)) at row ⌝ }
+{
+    put_be(table, at + NEXT, 8, row.track.next.0);
+    put_be(table, at + OFFSET, 2, row.track.offset.0 as u64);
+}
+
+fn store_readings(table: &mut [u8], at: usize, row: Row)
+    requires { ⌜ at + 96 ≤ length (now table) ⌝ }
+    ensures { λ _. ⌜ now (table .exit) ≡ readingsStored (now (table .entry)) at row ⌝ }
+{
+    put_be(table, at + LOCKED, 8, row.locked.0);
+    put_be(table, at + USED, 8, row.used.0);
+}
+
+// Stores the numbers that calls change.
+pub fn store_row(table: &mut [u8], at: usize, row: Row)
+    requires { ⌜ at + 96 ≤ length (now table) ⌝ }
+    ensures { λ _. ⌜ now (table .exit) ≡ storeRow (now (table .entry)) at row ⌝ }
+{
+    table[at + STATE] = row.state;
+    table[at + ERRORS] = row.errors;
+    store_steps(table, at, row);
+    store_readings(table, at, row);
+}
+
+fn clear(part: &mut [u8])
+    ensures { λ _. ⌜ now (part .exit) ≡ replicate (length (now (part .entry))) 0 ⌝ }
+{
+    let mut i = 0;
+    while i < part.len() {
+        part[i] = 0;
+        i += 1;
+    }
+}
+
+// Sets the key to zeros.
+pub fn wipe_key(table: &mut [u8], at: usize)
+    requires { ⌜ at + 96 ≤ length (now table) ⌝ }
+    ensures { λ _. ⌜ now (table .exit) ≡ wipeKey (now (table .entry)) at ⌝ }
+{
+    let key = at + KEY;
+    let next = at + NEXT;
+    clear(&mut table[key..next]);
+}
+
+// Writes the 16 bytes before the key.
+fn write_head(table: &mut [u8], at: usize, row: Row)
+    requires { ⌜ at + 96 ≤ length (now table) ⌝ }
+    ensures { λ _. ⌜ now (table .exit) ≡ put (now (table .entry)) at (beforeKey row) ⌝ }
+{
+    let rule = row.track.rule;
+    table[at + STATE] = row.state;
+    table[at + KIND] = rule.kind;
+    table[at + ALGORITHM] = rule.algorithm;
+    table[at + DIGITS] = rule.digits;
+    table[at + PERIOD] = row.track.period;
+    table[at + LIMIT] = row.limit;
+    table[at + ERRORS] = row.errors;
+    table[at + LENGTH] = row.length;
+    put_be(table, at + SERIAL, 8, row.serial);
+}
+
+// Writes the key, and zeros behind it.
+fn write_key(table: &mut [u8], at: usize, key: &[u8])
+    requires { ⌜ at + 96 ≤ length (now table) ⌝ }
+    requires { ⌜ length (now key) ≤ 32 ⌝ }
+    ensures { λ _. ⌜ now (table .exit) ≡ put (now (table .entry)) (at + 16) (zeroFilled (now (key .entry))) ⌝ }
+{
+    let start = at + KEY;
+    let end = start + key.len();
+    let next = at + NEXT;
+    copy(key, &mut table[start..end]);
+    clear(&mut table[end..next]);
+}
+
+// Writes the first unused step, the offset and the two zeros behind it.
+fn write_steps(table: &mut [u8], at: usize, row: Row)
+    requires { ⌜ at + 96 ≤ length (now table) ⌝ }
+    ensures { λ _. ⌜ now (table .exit) ≡ put (now (table .entry)) (at + 48) (stepBytes row) ⌝ }
+{
+    let gap = at + GAP;
+    let wait = at + WAIT;
+    store_steps(table, at, row);
+    clear(&mut table[gap..wait]);
+}
+
+// Writes the wait, the clock readings and the eight zeros at the end.
+fn write_times(table: &mut [u8], at: usize, row: Row)
+    requires { ⌜ at + 96 ≤ length (now table) ⌝ }
+    ensures { λ _. ⌜ now (table .exit) ≡ put (now (table .entry)) (at + 60) (timeBytes row) ⌝ }
+{
+    let spare = at + SPARE;
+    let end = at + ROW_BYTES;
+    put_be(table, at + WAIT, 4, row.wait as u64);
+    put_be(table, at + EXPIRY, 8, row.expiry.0);
+    store_readings(table, at, row);
+    clear(&mut table[spare..end]);
+}
+
+// Writes all 96 bytes of a row, with zeros behind its key.
+pub fn write_row(table: &mut [u8], at: usize, row: Row, key: &[u8])
+    requires { ⌜ at + 96 ≤ length (now table) ⌝ }
+    requires { ⌜ length (now key) ≤ 32 ⌝ }
+    ensures { λ _. ⌜ now (table .exit) ≡ writeRow (now (table .entry)) at row (now (key .entry)) ⌝ }
+{
+    write_head(table, at, row);
+    write_key(table, at, key);
+    write_steps(table, at, row);
+    write_times(table, at, row);
+}
