@@ -17,8 +17,8 @@ use Rattle.window.specs.declared.Outcome.{Outcome}
 use Rattle.window.specs.declared.Outcome.the-variants.{Accepted, TooFar, Used, Wrong}
 use Rattle.window.specs.Arguments.{checkable}
 use Rattle.window.specs.TokenCheck.{checkOf}
-use Rattle.capi.specs.declared.token.SizeRead.{SizeRead}
-use Rattle.capi.specs.declared.token.SizeRead.the-variants.{Is, Unknown}
+use Rattle.capi.specs.declared.checking.SizeRead.{SizeRead}
+use Rattle.capi.specs.declared.checking.SizeRead.the-variants.{Is, Unknown}
 
 abbrev pub trackOf : ℕ → ℕ → ℕ → ℕ → ℕ → ℕ → Track
 trackOf kind algorithm digits period next offset =

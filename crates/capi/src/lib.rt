@@ -1,6 +1,6 @@
 // The functions for C and for other languages (include/dykeladder.h). A slice is a pointer and a length.
+mod checking;
 mod store;
-mod token;
 
 use otp::Factor;
 use otp::password;

@@ -10,7 +10,7 @@ use lib.ListN.{length, take, drop, set, replicate, length-append, length-drop, l
 use lib.Seq.{length-take-le, take-at, take-add, take-all, take-append-add, take-append-seam, take-length, take-suc-set, take-take}
 use Rattle.words.specs.ListsLaws.{by-test}
 use Rattle.bytes.specs.Bytes.{indexOf, slice}
-use Rattle.otp.specs.IdLaws.{put-part}
+use Rattle.words.specs.PutLaws.{put-part}
 use Rattle.password_lines.specs.Line.{lineAnswer, refusal, printedOf}
 use Rattle.password_lines.specs.declared.Printed.{Printed}
 use Rattle.password_lines.specs.LineLaws.{long-line, answer-length}

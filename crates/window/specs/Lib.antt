@@ -10,4 +10,3 @@ pub mod TokenCheck
 pub mod Meaning
 pub mod SearchLaws
 pub mod TokenCheckLaws
-pub mod SetCases

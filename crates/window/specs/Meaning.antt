@@ -121,13 +121,13 @@ module _ (far hit : ℕ → Bool) (ahead next n : ℕ) (bounded : (r : ℕ) → 
 -- ---- a token's candidates
 
 module _ (k : Track) (clock : ℕ) (size : Size) where
-  candidate-bounded : (s : ℕ) → candidate k clock size s ≡ true → s < beyond k clock
+  pub candidate-bounded : (s : ℕ) → candidate k clock size s ≡ true → s < beyond k clock
   candidate-bounded s t =
       let r : leb (firstStep k clock size) s && ltb s (endStep k clock size) ≡ true = sym (candidates-are-range k clock size s) ∙ t in
       le-trans (ltb-true s (endStep k clock size) (and-right (leb (firstStep k clock size) s) (ltb s (endStep k clock size)) r)) (end-below k clock size)
 
   -- no candidate would set d past 600 either way
-  candidate-near : (s : ℕ) → candidate k clock size s ≡ true → tooFar k clock s ≡ false
+  pub candidate-near : (s : ℕ) → candidate k clock size s ≡ true → tooFar k clock s ≡ false
   unfolding candidate timeCandidate tooFar
   candidate-near s t = pick (eqb (k .rule .kind) timeToken) t
     where
@@ -153,6 +153,11 @@ module _ (k : Track) (clock : ℕ) (size : Size) where
     single-accepted-exactly =
         let law = accepted-exactly (tooFar k clock) (singleHit (candidate k clock size) matches) 0 (k .next .0) (beyond k clock) single-bounded single-near in
         (λ a e. let l = law .0 a e in let z : a .0 ≡ l .0 = l .1 .0 ∙ add-zero (l .0) in rw z (l .1 .1), λ s f. law .1 s f ∙ rw (add-zero s))
+
+    pub single-accepts-candidate : {a : Step} → singleCheck k clock size matches ≡ Accepted a → candidate k clock size (a .0) ≡ true
+    single-accepts-candidate {a} e =
+        let hit = and-right (leb (k .next .0) (a .0)) (singleHit (candidate k clock size) matches (a .0)) (single-accepted-exactly .0 a e .passes) in
+        and-left (candidate k clock size (a .0)) (matches (a .0)) hit
 
     pub single-used-exactly : (singleCheck k clock size matches ≡ Used → Never (freshHit (singleHit (candidate k clock size) matches) (k .next .0)) × ((s : ℕ) × (usedHit (singleHit (candidate k clock size) matches) (k .next .0) s ≡ true)))
         × (Never (freshHit (singleHit (candidate k clock size) matches) (k .next .0)) → (s : ℕ) → usedHit (singleHit (candidate k clock size) matches) (k .next .0) s ≡ true → singleCheck k clock size matches ≡ Used)
@@ -180,6 +185,13 @@ module _ (k : Track) (clock : ℕ) (size : Size) where
         × ((s : ℕ) → First (freshHit (pairHit (candidate k clock size) first second) (k .next .0)) s → pairCheck k clock size first second ≡ Accepted (record { 0 = s + 1 }))
     unfolding pairCheck
     pair-accepted-exactly = accepted-exactly (tooFar k clock) (pairHit (candidate k clock size) first second) 1 (k .next .0) (beyond k clock) pair-bounded pair-near
+
+    pub pair-accepts-candidate : {a : Step} → pairCheck k clock size first second ≡ Accepted a → candidate k clock size (a .0) ≡ true
+    pair-accepts-candidate {a} e =
+        let found = pair-accepted-exactly .0 a e in
+        let s = found .0 in
+        let hit = and-right (leb (k .next .0) s) (pairHit (candidate k clock size) first second s) (found .1 .1 .passes) in
+        rw (found .1 .0) (both-candidates s hit .1)
 
     pub pair-used-exactly : (pairCheck k clock size first second ≡ Used → Never (freshHit (pairHit (candidate k clock size) first second) (k .next .0)) × ((s : ℕ) × (usedHit (pairHit (candidate k clock size) first second) (k .next .0) s ≡ true)))
         × (Never (freshHit (pairHit (candidate k clock size) first second) (k .next .0)) → (s : ℕ) → usedHit (pairHit (candidate k clock size) first second) (k .next .0) s ≡ true → pairCheck k clock size first second ≡ Used)

@@ -13,14 +13,14 @@ use Rattle.window.specs.declared.Size.{Size}
 use Rattle.window.specs.declared.Step.{Step}
 use Rattle.window.specs.declared.Track.{Track}
 use Rattle.window.specs.declared.Outcome.{Outcome}
-use Rattle.window.specs.declared.Outcome.the-variants.{Accepted, TooFar, Used, Wrong}
+use Rattle.window.specs.declared.Outcome.the-variants.{Accepted, Used, Wrong}
 use Rattle.window.specs.declared.search.Found.{Found}
 use Rattle.window.specs.declared.search.Found.the-variants.{At, Nowhere}
 use Rattle.window.specs.Window.{timeToken, stepAt, timeWidth, candidate, beyond, Sound}
 use Rattle.window.specs.WindowLaws.{timeFirst, eventFirst, firstStep, endStep, candidates-are-range, end-below}
 use Rattle.window.specs.Check.{singleHit, pairHit, accepting}
 use Rattle.window.specs.CheckLaws.{sweep}
-use Rattle.window.specs.Meaning.{single-wrong-exactly, pair-wrong-exactly}
+use Rattle.window.specs.Meaning.{single-accepts-candidate, single-wrong-exactly, pair-accepts-candidate, pair-wrong-exactly}
 use Rattle.window.specs.PasswordAt.{hasPassword}
 use Rattle.window.specs.PasswordAtLaws.{EndOk, aheadOf, matchesAt, countsRight, other-length}
 use Rattle.window.specs.TokenCheck.{tooFar, singleCheck, pairCheck, checkOf}
@@ -106,3 +106,12 @@ check-counted k clock size key challenge presented (b ∷ following) e =
     (λ s. by-test (eqb (length presented) (k .rule .digits))
     (λ t. rw (other-length (k .rule) key challenge (b ∷ following) (s + 1) (eqb-false (suc (length following)) (k .rule .digits) (rw (t, ne-eqb (suc (length following)) 0 (λ z. omega arith)) at e)), and-false, and-false))
     (λ t. rw (other-length (k .rule) key challenge presented s (eqb-false (length presented) (k .rule .digits) t)) (and-false (candidate k clock size s && candidate k clock size (s + 1))))))
+
+-- ---- what is accepted is a candidate
+
+pub check-accepts-candidate : (k : Track) (clock : ℕ) (size : Size) (key challenge presented following : List ℕ) {a : Step}
+    → checkOf k clock size key challenge presented following ≡ Accepted a → candidate k clock size (a .0) ≡ true
+unfolding checkOf
+check-accepts-candidate k clock size key challenge presented [] e = single-accepts-candidate k clock size (hasPassword (k .rule) key challenge presented) e
+check-accepts-candidate k clock size key challenge presented (b ∷ following) e =
+    pair-accepts-candidate k clock size (hasPassword (k .rule) key challenge presented) (hasPassword (k .rule) key challenge (b ∷ following)) e

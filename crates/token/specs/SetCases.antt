@@ -1,16 +1,22 @@
 -- The set cases of document 01, as a table with one proof over the definitions.
 use Prim.Native.Nat.{ℕ, zero, suc, _+_, _-_, _^_}
 use mathlib.Core.Path.{_≡_, refl}
-use mathlib.Core.Bool.{Bool, true, cond, _&&_}
+use mathlib.Core.Bool.{Bool, true, cond, not, _&&_}
 use mathlib.Core.List.{List, [], _∷_, _++_}
 use lib.Dec.{eqb}
 use lib.ListN.{replicate}
 use Rattle.words.specs.Bytes.{beAt, beBytes}
 use Rattle.words.specs.Lists.{sameBytes}
 use Rattle.window.specs.declared.Size.{Size}
 use Rattle.window.specs.declared.Size.the-variants.{Small}
 use Rattle.window.specs.declared.Track.{Track}
 use Rattle.window.specs.Window.{timeCandidate, eventCandidate, candidate}
+use Rattle.window.specs.declared.Outcome.{Outcome}
+use Rattle.row.specs.declared.Row.{Row}
+use Rattle.token.specs.declared.calls.Call.{Call}
+use Rattle.token.specs.States.{waitOver, waited, failed}
+use Rattle.token.specs.Serving.{serving}
+use Rattle.token.specs.CallTable.{tokenIn}
 use Rattle.otp.specs.declared.Factor.the-variants.{Absent, Present}
 use Rattle.otp.specs.Password.{factorBytes, idOf, filled, blockSum, wordSum, cut, decimals, shown}
 
@@ -52,6 +58,22 @@ unfoldable pub candidatesFrom : ℕ → ℕ → Track → ℕ → Size → List 
 candidatesFrom s zero k clock size = []
 candidatesFrom s (suc count) k clock size = cond (candidate k clock size s) (s ∷ []) [] ++ candidatesFrom (s + 1) count k clock size
 
+-- a token without errors whose limit is 1
+abbrev pub limitOne : Row → Row
+limitOne r =
+    record {
+      state = r .state;
+      track = r .track;
+      limit = 1;
+      errors = 0;
+      length = r .length;
+      serial = r .serial;
+      wait = r .wait;
+      expiry = r .expiry;
+      locked = r .locked;
+      used = r .used;
+    }
+
 abbrev pub setCases : List Case
 setCases =
     case 1 (eqb (cut fourWords) 0x0b788100 && sameBytes (shown 6 fourWords) text446720)
@@ -64,8 +86,10 @@ setCases =
     ∷ case 8 (sameBytes (candidatesFrom 0 30 (eventTrack 5) 0 Small) (4 ∷ 5 ∷ 6 ∷ 7 ∷ 8 ∷ 9 ∷ 10 ∷ 11 ∷ 12 ∷ 13 ∷ 14 ∷ []))
     ∷ case 9 (sameBytes (candidatesFrom (2 ^ 32 - 20) 40 (eventTrack (2 ^ 32 - 1)) 0 Small) ((2 ^ 32 - 2) ∷ (2 ^ 32 - 1) ∷ []))
     ∷ case 10 (sameBytes (candidatesFrom 1590 20 (timeTrack 1 1200) 1000 Small) (1598 ∷ 1599 ∷ 1600 ∷ []))
+    ∷ case 11 ((not (waitOver (tokenIn 3 1000) 999) && not (waitOver (tokenIn 3 1000) 1059)) && waitOver (tokenIn 3 1000) 1060)
+    ∷ case 12 (eqb (serving Call.Login (limitOne (tokenIn 2 0)) 1000 (λ k size. Outcome.Wrong) .row .state) 3)
     ∷ []
 
 pub set-cases-hold : allHold setCases ≡ true
-unfolding factorBytes idOf filled blockSum wordSum cut decimals shown sameBytes beAt beBytes candidatesFrom candidate timeCandidate eventCandidate
+unfolding factorBytes idOf filled blockSum wordSum cut decimals shown sameBytes beAt beBytes candidatesFrom candidate timeCandidate eventCandidate waitOver waited failed serving
 set-cases-hold = refl

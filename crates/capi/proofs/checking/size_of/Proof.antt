@@ -1,6 +1,6 @@
 use borrow.Author.Tests.{eq-eqb, ne-eqb}
-use Rattle.capi.proofs.token.size_of.Statement.{statement}
-use Rattle.capi.proofs.token.size_of.Tie as tie
+use Rattle.capi.proofs.checking.size_of.Statement.{statement}
+use Rattle.capi.proofs.checking.size_of.Tie as tie
 
 returns : tie.Need-returns
 returns c = rw (eq-eqb (c .before .args .number) 1 (c .if1 .taken))

@@ -5,8 +5,8 @@ use Rattle.window.specs.PasswordAtLaws.{inRange}
 use Rattle.window.specs.Arguments.{soundTest, test-sound}
 use Rattle.capi.specs.Checked.{trackOf, check-refused, check-unstored, check-unsized, check-made}
 use borrow.Author.Needs.{needs}
-use Rattle.capi.proofs.token.dl_check.Statement.{statement}
-use Rattle.capi.proofs.token.dl_check.Tie as tie
+use Rattle.capi.proofs.checking.dl_check.Statement.{statement}
+use Rattle.capi.proofs.checking.dl_check.Tie as tie
 
 checkable-requires : tie.Need-checkable-requires
 checkable-requires c κs = search needs

@@ -1,8 +1,8 @@
 use mathlib.Core.Path.{refl}
 use Rattle.capi.specs.Checked.{write-first}
 use borrow.Author.Needs.{needs}
-use Rattle.capi.proofs.token.put_outcome.Statement.{statement}
-use Rattle.capi.proofs.token.put_outcome.Tie as tie
+use Rattle.capi.proofs.checking.put_outcome.Statement.{statement}
+use Rattle.capi.proofs.checking.put_outcome.Tie as tie
 
 enum-known-outcome : tie.Need-enum-known-outcome
 enum-known-outcome c = search needs

@@ -1,0 +1,76 @@
+use borrow.Author.Needs.{needs}
+use Rattle.token.proofs.serving.judging.Statement.{statement}
+use Rattle.token.proofs.serving.judging.Tie as tie
+
+enum-known-outcome : tie.Need-enum-known-outcome
+enum-known-outcome c = search needs
+
+offset-after-requires : tie.Need-offset-after-requires
+offset-after-requires c κs = (c .before .before .before .pre .0, rw (c .before .outcome .given .1) at (c .before .before .before .pre .1))
+
+accepted-requires : tie.Need-accepted-requires
+accepted-requires c κs = (c .before .before .before .before .pre .0, rw (c .before .before .outcome .given .1) at (c .before .before .before .before .pre .1))
+
+enum-told : tie.Need-enum-told
+enum-told c = search needs
+
+refusing-requires : tie.Need-refusing-requires
+refusing-requires c κs = search needs
+
+enum-told-2 : tie.Need-enum-told-2
+enum-told-2 c = search needs
+
+used-refusal-requires : tie.Need-used-refusal-requires
+used-refusal-requires c κs = search needs
+
+failed-requires : tie.Need-failed-requires
+failed-requires c κs = search needs
+
+refusing-requires-2 : tie.Need-refusing-requires-2
+refusing-requires-2 c κs = search needs
+
+enum-told-3 : tie.Need-enum-told-3
+enum-told-3 c = search needs
+
+wrong-refusal-requires : tie.Need-wrong-refusal-requires
+wrong-refusal-requires c κs = search needs
+
+failed-requires-2 : tie.Need-failed-requires-2
+failed-requires-2 c κs = search needs
+
+refusing-requires-3 : tie.Need-refusing-requires-3
+refusing-requires-3 c κs = search needs
+
+returns : tie.Need-returns
+returns c = rw (c .before .before .before .outcome .given .1, c .before .offset-after .ensures, c .accepted .ensures)
+
+returns-2 : tie.Need-returns-2
+returns-2 c = rw (c .before .enum-told .given .1) (c .refusing .ensures)
+
+returns-3 : tie.Need-returns-3
+returns-3 c = rw (c .before .before .before .enum-told2 .given .1, ← c .before .before .used-refusal .ensures, ← c .before .failed .ensures) (c .refusing2 .ensures)
+
+returns-4 : tie.Need-returns-4
+returns-4 c = rw (c .before .before .before .enum-told3 .given .1, ← c .before .before .wrong-refusal .ensures, ← c .before .failed2 .ensures) (c .refusing3 .ensures)
+
+pub judging-spec : {M : Type 1} → statement M
+judging-spec =
+    tie.close
+    (tie.spec
+    enum-known-outcome
+    offset-after-requires
+    accepted-requires
+    enum-told
+    refusing-requires
+    enum-told-2
+    used-refusal-requires
+    failed-requires
+    refusing-requires-2
+    enum-told-3
+    wrong-refusal-requires
+    failed-requires-2
+    refusing-requires-3
+    returns
+    returns-2
+    returns-3
+    returns-4)

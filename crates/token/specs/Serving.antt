@@ -1,0 +1,46 @@
+-- What a call does with one well-formed row (document 01, Part 5 and "What a turned-down call says"): the answer and the row after it.
+-- The check's outcome is a parameter: a call rests on the password rule only through it.
+use Prim.Native.Nat.{ℕ}
+use mathlib.Core.Bool.{cond}
+use lib.Dec.{leb}
+use Rattle.window.specs.declared.Size.{Size}
+use Rattle.window.specs.declared.Step.{Step}
+use Rattle.window.specs.declared.Track.{Track}
+use Rattle.window.specs.declared.Outcome.{Outcome}
+use Rattle.row.specs.declared.Row.{Row}
+use Rattle.token.specs.declared.calls.Call.{Call}
+use Rattle.token.specs.declared.calls.Checking.{Checking}
+use Rattle.token.specs.declared.answers.Content.{Content}
+use Rattle.token.specs.declared.answers.Refusal.{Refusal}
+use Rattle.token.specs.declared.answers.Answer.{Answer}
+use Rattle.token.specs.declared.serving.Served.{Served}
+use Rattle.token.specs.Calls.{allowed, checkingOf, usedRefusal, wrongRefusal, stateRefusal}
+use Rattle.token.specs.States.{waited, moved, offsetAfter, accepted, failed}
+
+abbrev pub refusing : Refusal → Row → Served
+refusing refusal r = record { answer = Answer.Refused refusal; row = r }
+
+-- the check's outcome decides: success, 8106, used, wrong
+abbrev pub judging : Call → Row → ℕ → Outcome → Served
+judging call r clock (Outcome.Accepted a) =
+    record { answer = Answer.Success call (Content.Checked a (offsetAfter (r .track) clock (a .0))); row = accepted call r clock (a .0) }
+judging call r clock Outcome.TooFar = refusing Refusal.TooFar r
+judging call r clock Outcome.Used = refusing (usedRefusal call) (failed call r clock)
+judging call r clock Outcome.Wrong = refusing (wrongRefusal call) (failed call r clock)
+
+-- a checked call is refused at or after the expiry
+abbrev pub checking : Call → Row → ℕ → (Track → Size → Outcome) → Checking → Served
+checking call r clock outcome Checking.Nothing = record { answer = Answer.Success call Content.Plain; row = moved call r }
+checking call r clock outcome (Checking.By size) = cond (leb (r .expiry .0) clock) (refusing Refusal.Expired r) (judging call r clock (outcome (r .track) size))
+
+-- a call in the state that its row has once a wait has run out
+abbrev pub permitted : Call → Row → ℕ → (Track → Size → Outcome) → Served
+permitted call r clock outcome = cond (allowed call (r .state)) (checking call r clock outcome (checkingOf call)) (refusing (stateRefusal (r .state)) r)
+
+unfoldable pub serving : Call → Row → ℕ → (Track → Size → Outcome) → Served
+serving call r clock outcome = permitted call (waited r clock) clock outcome
+
+-- a query reports a wait that has run out, and leaves the row
+unfoldable pub querying : Row → ℕ → Answer
+querying r clock =
+    Answer.Success Call.Query (Content.Told (record { state = waited r clock .state; errors = waited r clock .errors; used = waited r clock .used }))

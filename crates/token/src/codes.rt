@@ -1,0 +1,59 @@
+// The numbers of the answers.
+use crate::answers::Answer;
+use crate::answers::Refusal;
+use crate::calls::Call;
+ghost use mathlib.Core.Path.{_≡_};
+ghost use Rattle.token.specs.Codes.{successNumber, refusalNumber, numberOf};
+
+fn success_number(call: Call) -> u16
+    ensures { λ r. ⌜ r ≡ successNumber call ⌝ }
+{
+    match call {
+        Call::Load => 0x0140,
+        Call::Login => 0x0001,
+        Call::ChallengeLogin => 0x0002,
+        Call::Activate => 0x0101,
+        Call::Lock => 0x0102,
+        Call::Unlock => 0x0103,
+        Call::Suspend => 0x0104,
+        Call::Resume => 0x0105,
+        Call::SyncMedium => 0x0108,
+        Call::SyncLarge => 0x0108,
+        Call::Void => 0x010a,
+        Call::Query => 0x010b,
+    }
+}
+
+fn refusal_number(refusal: Refusal) -> u16
+    ensures { λ r. ⌜ r ≡ refusalNumber refusal ⌝ }
+{
+    match refusal {
+        Refusal::BadArgument => 0x9005,
+        Refusal::AlreadyLoaded => 0x8411,
+        Refusal::TableFull => 0x8410,
+        Refusal::Unknown => 0x8402,
+        Refusal::Damaged => 0x8403,
+        Refusal::Ready => 0x8409,
+        Refusal::Locked => 0x8404,
+        Refusal::Suspended => 0x8405,
+        Refusal::Inactive => 0x8406,
+        Refusal::Void => 0x8407,
+        Refusal::Expired => 0x8408,
+        Refusal::TooFar => 0x8106,
+        Refusal::UsedAtLogin => 0x8004,
+        Refusal::Used => 0x8104,
+        Refusal::WrongAtLogin => 0x8002,
+        Refusal::Wrong => 0x8102,
+        Refusal::WrongAtSync => 0x8105,
+    }
+}
+
+// The code that document 01 gives to an answer.
+pub fn number_of(answer: Answer) -> u16
+    ensures { λ r. ⌜ r ≡ numberOf answer ⌝ }
+{
+    match answer {
+        Answer::Success(call, _) => success_number(call),
+        Answer::Refused(refusal) => refusal_number(refusal),
+    }
+}

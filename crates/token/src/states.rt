@@ -1,0 +1,159 @@
+// What happens to a token's row, by value.
+use crate::calls::Call;
+use crate::calls::is_login;
+use crate::calls::state_after;
+use row::Row;
+use window::FARTHEST;
+use window::Offset;
+use window::Seconds;
+use window::Step;
+use window::TIME_TOKEN;
+use window::Track;
+use window::step_at;
+ghost use mathlib.Core.Path.{_≡_};
+ghost use Rattle.window.specs.Window.{Sound};
+ghost use Rattle.token.specs.States.{changed, waitOver, waited, lockedAfter, moved, offsetAfter, trackAfter, accepted, errorsAfter, failed};
+ghost use Rattle.token.specs.StatesLaws.{Near};
+
+pub(crate) const EMPTY: u8 = 0;
+
+pub(crate) const INACTIVE: u8 = 1;
+
+pub(crate) const READY: u8 = 2;
+
+pub(crate) const LOCKED_BY_ERRORS: u8 = 3;
+
+pub(crate) const LOCKED_BY_HAND: u8 = 4;
+
+pub(crate) const SUSPENDED: u8 = 5;
+
+pub(crate) const VOID: u8 = 6;
+
+const MOST_ERRORS: u8 = 255;
+
+// The row with other values of what calls change.
+fn changed(row: Row, state: u8, errors: u8, track: Track, locked: Seconds, used: Seconds) -> Row
+    ensures { λ r. ⌜ r ≡ changed row state errors track locked used ⌝ }
+{
+    let expiry = row.expiry;
+    Row {
+        state,
+        track,
+        limit: row.limit,
+        errors,
+        length: row.length,
+        serial: row.serial,
+        wait: row.wait,
+        expiry,
+        locked,
+        used,
+    }
+}
+
+// Whether a row's wait has run out. A clock before the lock is compared before it is subtracted from.
+fn wait_over(row: Row, clock: Seconds) -> bool
+    ensures { λ r. ⌜ r ≡ waitOver row (clock .0) ⌝ }
+{
+    if row.state != LOCKED_BY_ERRORS {
+        return false;
+    }
+    if clock.0 < row.locked.0 {
+        return false;
+    }
+    row.wait as u64 <= clock.0 - row.locked.0
+}
+
+// The row once a wait that has run out has made it ready.
+pub(crate) fn waited(row: Row, clock: Seconds) -> Row
+    ensures { λ r. ⌜ r ≡ waited row (clock .0) ⌝ }
+{
+    let track = row.track;
+    let used = row.used;
+    if wait_over(row, clock) {
+        return changed(row, READY, 0, track, Seconds(0), used);
+    }
+    row
+}
+
+// Leaving state 3 zeroes `locked at`.
+fn locked_after(row: Row, state: u8) -> Seconds
+    ensures { λ r. ⌜ r ≡ lockedAfter row state ⌝ }
+{
+    if (row.state == LOCKED_BY_ERRORS) & (state != LOCKED_BY_ERRORS) {
+        return Seconds(0);
+    }
+    row.locked
+}
+
+// The row in the state that a success leaves.
+pub(crate) fn moved(call: Call, row: Row) -> Row
+    ensures { λ r. ⌜ r ≡ moved call row ⌝ }
+{
+    let track = row.track;
+    let used = row.used;
+    let state = state_after(call, row.state);
+    let locked = locked_after(row, state);
+    changed(row, state, row.errors, track, locked, used)
+}
+
+// The offset that an accepted step sets: d = a - T for a time token.
+pub(crate) fn offset_after(track: Track, clock: Seconds, a: Step) -> Offset
+    requires { ⌜ Sound track (clock .0) ⌝ }
+    requires { ⌜ Near track (clock .0) (a .0) ⌝ }
+    ensures { λ r. ⌜ r ≡ offsetAfter track (clock .0) (a .0) ⌝ }
+{
+    if track.rule.kind != TIME_TOKEN {
+        return track.offset;
+    }
+    let t = step_at(clock, track.period);
+    Offset((a.0 + FARTHEST - t.0) as u16)
+}
+
+fn track_after(track: Track, clock: Seconds, a: Step) -> Track
+    requires { ⌜ Sound track (clock .0) ⌝ }
+    requires { ⌜ Near track (clock .0) (a .0) ⌝ }
+    ensures { λ r. ⌜ r ≡ trackAfter track (clock .0) (a .0) ⌝ }
+{
+    let rule = track.rule;
+    let offset = offset_after(track, clock, a);
+    Track {
+        rule,
+        period: track.period,
+        next: Step(a.0 + 1),
+        offset,
+    }
+}
+
+// The row once step a has been accepted.
+pub(crate) fn accepted(call: Call, row: Row, clock: Seconds, a: Step) -> Row
+    requires { ⌜ Sound (row .track) (clock .0) ⌝ }
+    requires { ⌜ Near (row .track) (clock .0) (a .0) ⌝ }
+    ensures { λ r. ⌜ r ≡ accepted call row (clock .0) (a .0) ⌝ }
+{
+    let locked = row.locked;
+    let track = track_after(row.track, clock, a);
+    moved(call, changed(row, row.state, 0, track, locked, clock))
+}
+
+fn errors_after(row: Row) -> u8
+    ensures { λ r. ⌜ r ≡ errorsAfter row ⌝ }
+{
+    if row.errors < MOST_ERRORS {
+        return row.errors + 1;
+    }
+    MOST_ERRORS
+}
+
+// The row once a password was used or wrong; a login's error that reaches the limit locks it.
+pub(crate) fn failed(call: Call, row: Row, clock: Seconds) -> Row
+    ensures { λ r. ⌜ r ≡ failed call row (clock .0) ⌝ }
+{
+    let track = row.track;
+    let locked = row.locked;
+    let used = row.used;
+    let errors = errors_after(row);
+    if is_login(call) & (row.limit <= errors) {
+        return changed(row, LOCKED_BY_ERRORS, errors, track, clock, used);
+    }
+    changed(row, row.state, errors, track, locked, used)
+}
