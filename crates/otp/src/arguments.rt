@@ -34,7 +34,7 @@ fn printable(challenge: &[u8]) -> bool
     clean
 }
 
-pub fn challenge_ok(challenge: &[u8]) -> bool
+fn challenge_ok(challenge: &[u8]) -> bool
     ensures { λ r. ⌜ r ≡ challengeOk (now (challenge .entry)) ⌝ }
 {
     let n = challenge.len();

@@ -2,16 +2,13 @@
 -- entry in the code.
 use Prim.Native.Nat.{ℕ}
 use mathlib.Core.Path.{_≡_, refl}
-use mathlib.Core.Bool.{Bool, true, false, _&&_}
+use mathlib.Core.Bool.{Bool, true, _&&_}
 use mathlib.Core.List.{List, [], _∷_}
-use lib.Dec.{eqb}
 use Rattle.words.specs.Lists.{sameBytes}
-use Rattle.window.specs.declared.Size.{Size}
-use Rattle.window.specs.declared.Track.{Track}
 use Rattle.window.specs.declared.Outcome.{Outcome}
 use Rattle.row.specs.declared.Row.{Row}
+use Rattle.row.specs.Row.{allOf}
 use Rattle.token.specs.declared.calls.Call.{Call}
-use Rattle.token.specs.declared.answers.Answer.{Answer}
 use Rattle.token.specs.declared.serving.Served.{Served}
 use Rattle.token.specs.Codes.{numberOf}
 use Rattle.token.specs.States.{waitOver, waited, moved, accepted, failed}
@@ -69,10 +66,6 @@ rowHolds call clock outcome answered after errors locked =
     && sameBytes (errorCounts (servedEach call clock outcome sixTokens)) errors)
     && sameBytes (lockedAts (servedEach call clock outcome sixTokens)) locked
 
-abbrev pub allHold : List Bool → Bool
-allHold [] = true
-allHold (b ∷ bs) = b && allHold bs
-
 -- a check's outcome that accepts step 8
 abbrev pub accepts : Outcome
 accepts = Outcome.Accepted (record { 0 = 8 })
@@ -125,6 +118,6 @@ expiredRows =
     ∷ rowHolds Call.Void 5000 accepts (six 0x010a 0x010a 0x010a 0x010a 0x010a 0x8407) (six 6 6 6 6 6 6) (six 2 2 0 2 2 2) (six 0 0 0 0 0 0)
     ∷ []
 
-pub call-table-holds : (allHold acceptedRows && allHold refusedRows) && (allHold waitedRows && allHold expiredRows) ≡ true
+pub call-table-holds : (allOf acceptedRows && allOf refusedRows) && (allOf waitedRows && allOf expiredRows) ≡ true
 unfolding sameBytes waitOver waited moved accepted failed serving
 call-table-holds = refl

@@ -2,7 +2,6 @@
 use Prim.Native.Nat.{ℕ}
 use mathlib.Core.Bool.{Bool, true, false, _&&_, _||_, cond}
 use lib.Dec.{eqb, leb}
-use Rattle.window.specs.declared.Size.{Size}
 use Rattle.window.specs.declared.Size.the-variants.{Small, Medium, Large}
 use Rattle.token.specs.declared.calls.Call.{Call}
 use Rattle.token.specs.declared.calls.Checking.{Checking}

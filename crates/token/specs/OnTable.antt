@@ -4,7 +4,6 @@ use mathlib.Core.Bool.{Bool, false, cond}
 use mathlib.Core.List.{List}
 use lib.ListN.{take, drop}
 use Rattle.window.specs.TokenCheck.{checkOf}
-use Rattle.row.specs.declared.Row.{Row}
 use Rattle.row.specs.Row.{rowAt, wellFormed}
 use Rattle.row.specs.Table.{storeRow, wipeKey}
 use Rattle.token.specs.declared.calls.Call.{Call}

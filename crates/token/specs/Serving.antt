@@ -4,7 +4,6 @@ use Prim.Native.Nat.{ℕ}
 use mathlib.Core.Bool.{cond}
 use lib.Dec.{leb}
 use Rattle.window.specs.declared.Size.{Size}
-use Rattle.window.specs.declared.Step.{Step}
 use Rattle.window.specs.declared.Track.{Track}
 use Rattle.window.specs.declared.Outcome.{Outcome}
 use Rattle.row.specs.declared.Row.{Row}

@@ -1,15 +1,13 @@
 -- What each branch of a call on one row returns.
 use Prim.Native.Nat.{ℕ, _+_, _^_, _≤_, _<_}
-use mathlib.Core.Path.{_≡_, refl, sym, ap, _∙_}
+use mathlib.Core.Path.{_≡_, sym, _∙_}
 use mathlib.Core.Bool.{Bool, true, false, cond}
 use mathlib.Core.List.{List}
 use native.Mathlib.Nat.{div-le-self}
 use native.Mathlib.Omega.{arith}
 use borrow.Author.Tests.{le-leb, lt-leb, ltb-false, eq-eqb}
-use lib.Dec.{eqb, leb, ltb}
-use Rattle.words.specs.ListsLaws.{by-test}
+use lib.Dec.{eqb}
 use Rattle.window.specs.declared.Size.{Size}
-use Rattle.window.specs.declared.Step.{Step}
 use Rattle.window.specs.declared.Track.{Track}
 use Rattle.window.specs.declared.Outcome.{Outcome}
 use Rattle.window.specs.Window.{timeToken, stepAt, distance, farthest, candidate, beyond, Sound}
@@ -26,7 +24,7 @@ use Rattle.token.specs.declared.serving.Served.{Served}
 use Rattle.token.specs.Calls.{allowed, checkingOf, stateRefusal}
 use Rattle.token.specs.States.{waited, moved}
 use Rattle.token.specs.StatesLaws.{Near, NearIfAccepted}
-use Rattle.token.specs.Serving.{refusing, judging, checking, permitted, serving}
+use Rattle.token.specs.Serving.{refusing, judging, checking, serving}
 
 -- a candidate may be accepted
 candidate-accepted : (k : Track) (clock : ℕ) (size : Size) (a : ℕ) → Sound k clock → candidate k clock size a ≡ true → Near k clock a

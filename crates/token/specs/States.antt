@@ -2,7 +2,6 @@
 use Prim.Native.Nat.{ℕ, _+_, _-_, min}
 use mathlib.Core.Bool.{Bool, _&&_, not, cond}
 use lib.Dec.{eqb, leb}
-use Rattle.window.specs.declared.Step.{Step}
 use Rattle.window.specs.declared.Seconds.{Seconds}
 use Rattle.window.specs.declared.Offset.{Offset}
 use Rattle.window.specs.declared.Track.{Track}

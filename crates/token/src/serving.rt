@@ -83,7 +83,8 @@ fn checked(
     judging(call, row, clock, outcome)
 }
 
-// The answer to a call that names this token, and the row after it. Passwords and challenge that a call does not have are empty.
+// The answer to a call that names this token, and the row after it. Passwords and challenge that a call does not have are
+// empty; the passwords that it has are not, since an empty second one is none.
 pub fn serve(
     call: Call,
     row: Row,

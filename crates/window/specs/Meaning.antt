@@ -18,7 +18,7 @@ use Rattle.window.specs.declared.Outcome.the-variants.{Accepted, TooFar,
 use Rattle.window.specs.Window.{timeToken, stepAt, distance, timeWidth, eventWidth, farthest, timeCandidate, eventCandidate, candidate, beyond}
 use Rattle.window.specs.WindowLaws.{firstStep, endStep, candidates-are-range, end-below, and-both}
 use Rattle.window.specs.Check.{smallest, freshHit, usedHit, judged, checked, singleHit, pairHit, settled}
-use Rattle.window.specs.CheckLaws.{NoneBelow, Least, Found, found, missing, smallest-found, clash, order}
+use Rattle.window.specs.CheckLaws.{NoneBelow, Found, found, missing, smallest-found, clash, order}
 use Rattle.window.specs.TokenCheck.{tooFar, singleCheck, pairCheck}
 
 -- no number passes the test

@@ -1,5 +1,4 @@
 use borrow.Author.Needs.{needs}
-use Prim.Native.Nat.{_-_}
 use mathlib.Core.Path.{refl}
 use Rattle.words.specs.PutLaws.{put-part}
 use Rattle.otp.proofs.id.put_bytes.Statement.{statement}

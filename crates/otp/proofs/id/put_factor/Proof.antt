@@ -1,5 +1,4 @@
 use borrow.Author.Needs.{needs}
-use Prim.Native.Nat.{_-_}
 use Rattle.otp.specs.IdLaws.{factor-absent, factor-present}
 use Rattle.otp.proofs.id.put_factor.Statement.{statement}
 use Rattle.otp.proofs.id.put_factor.Tie as tie

@@ -1,5 +1,4 @@
 use borrow.Author.Needs.{needs}
-use Prim.Native.Nat.{_-_}
 use native.Mathlib.Omega.{arith}
 use Rattle.otp.specs.IdLaws.{put-id, factor-length}
 use Rattle.otp.proofs.id.put_id.Statement.{statement}
