@@ -1,14 +1,17 @@
 -- Part 5's table restated, every call in every state, as one test that computes: a wrong entry of a definition cannot hide behind the same
 -- entry in the code.
-use Prim.Native.Nat.{ℕ}
+use Prim.Native.Nat.{ℕ, _+_}
 use mathlib.Core.Path.{_≡_, refl}
 use mathlib.Core.Bool.{Bool, true, _&&_}
 use mathlib.Core.List.{List, [], _∷_}
 use Rattle.words.specs.Lists.{sameBytes}
+use Rattle.window.specs.declared.Size.{Size}
 use Rattle.window.specs.declared.Outcome.{Outcome}
 use Rattle.row.specs.declared.Row.{Row}
 use Rattle.row.specs.Row.{allOf}
 use Rattle.token.specs.declared.calls.Call.{Call}
+use Rattle.token.specs.declared.answers.Content.{Content}
+use Rattle.token.specs.declared.answers.Answer.{Answer}
 use Rattle.token.specs.declared.serving.Served.{Served}
 use Rattle.token.specs.Codes.{numberOf}
 use Rattle.token.specs.States.{waitOver, waited, moved, accepted, failed}
@@ -37,7 +40,7 @@ sixTokens = tokenIn 1 0 ∷ tokenIn 2 0 ∷ tokenIn 3 1000 ∷ tokenIn 4 0 ∷ t
 -- what a call does with each token, at a clock, if every check has the same outcome
 abbrev pub servedEach : Call → ℕ → Outcome → List Row → List Served
 servedEach call clock outcome [] = []
-servedEach call clock outcome (r ∷ rs) = serving call r clock (λ k size. outcome) ∷ servedEach call clock outcome rs
+servedEach call clock outcome (r ∷ rs) = serving call r clock (λ k size. outcome) (λ k size. outcome) ∷ servedEach call clock outcome rs
 
 -- of each: the number answered, and the state, the errors and `locked at` after it
 abbrev pub numbers : List Served → List ℕ
@@ -118,6 +121,39 @@ expiredRows =
     ∷ rowHolds Call.Void 5000 accepts (six 0x010a 0x010a 0x010a 0x010a 0x010a 0x8407) (six 6 6 6 6 6 6) (six 2 2 0 2 2 2) (six 0 0 0 0 0 0)
     ∷ []
 
-pub call-table-holds : (allOf acceptedRows && allOf refusedRows) && (allOf waitedRows && allOf expiredRows) ≡ true
+-- the column Check: a check that accepts the number of its size, 10 more for a pair, shows which one a call makes
+abbrev pub sizeNumber : Size → ℕ
+sizeNumber Size.Small = 1
+sizeNumber Size.Medium = 2
+sizeNumber Size.Large = 3
+
+abbrev pub stepOf : Answer → ℕ
+stepOf (Answer.Success call (Content.Checked step d)) = step .0
+stepOf (Answer.Success call Content.Plain) = 0
+stepOf (Answer.Success call (Content.Told status)) = 0
+stepOf (Answer.Refused refusal) = 0
+
+abbrev pub checkShown : Call → ℕ → ℕ
+checkShown call state =
+    stepOf (serving call (tokenIn state 0) 1059 (λ k size. Outcome.Accepted (record { 0 = sizeNumber size })) (λ k size. Outcome.Accepted (record { 0 = 10 + sizeNumber size })) .answer)
+
+abbrev pub checksShown : List ℕ
+checksShown =
+    checkShown Call.Login 2
+    ∷ checkShown Call.ChallengeLogin 2
+    ∷ checkShown Call.Activate 1
+    ∷ checkShown Call.Lock 2
+    ∷ checkShown Call.Unlock 4
+    ∷ checkShown Call.Suspend 2
+    ∷ checkShown Call.Resume 5
+    ∷ checkShown Call.SyncMedium 2
+    ∷ checkShown Call.SyncLarge 2
+    ∷ checkShown Call.Void 2
+    ∷ []
+
+abbrev pub checkColumn : Bool
+checkColumn = sameBytes checksShown (1 ∷ 1 ∷ 13 ∷ 0 ∷ 1 ∷ 0 ∷ 1 ∷ 12 ∷ 13 ∷ 0 ∷ [])
+
+pub call-table-holds : checkColumn && ((allOf acceptedRows && allOf refusedRows) && (allOf waitedRows && allOf expiredRows)) ≡ true
 unfolding sameBytes waitOver waited moved accepted failed serving
 call-table-holds = refl

@@ -52,15 +52,15 @@ allowed Call.Query state = true
 -- check
 abbrev pub checkingOf : Call → Checking
 checkingOf Call.Load = Checking.Nothing
-checkingOf Call.Login = Checking.By Small
-checkingOf Call.ChallengeLogin = Checking.By Small
-checkingOf Call.Activate = Checking.By Large
+checkingOf Call.Login = Checking.Single Small
+checkingOf Call.ChallengeLogin = Checking.Single Small
+checkingOf Call.Activate = Checking.Pair Large
 checkingOf Call.Lock = Checking.Nothing
-checkingOf Call.Unlock = Checking.By Small
+checkingOf Call.Unlock = Checking.Single Small
 checkingOf Call.Suspend = Checking.Nothing
-checkingOf Call.Resume = Checking.By Small
-checkingOf Call.SyncMedium = Checking.By Medium
-checkingOf Call.SyncLarge = Checking.By Large
+checkingOf Call.Resume = Checking.Single Small
+checkingOf Call.SyncMedium = Checking.Pair Medium
+checkingOf Call.SyncLarge = Checking.Pair Large
 checkingOf Call.Void = Checking.Nothing
 checkingOf Call.Query = Checking.Nothing
 

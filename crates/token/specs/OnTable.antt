@@ -3,7 +3,7 @@ use Prim.Native.Nat.{ℕ, _+_}
 use mathlib.Core.Bool.{Bool, false, cond}
 use mathlib.Core.List.{List}
 use lib.ListN.{take, drop}
-use Rattle.window.specs.TokenCheck.{checkOf}
+use Rattle.window.specs.PasswordAt.{PasswordRule}
 use Rattle.row.specs.Row.{rowAt, wellFormed}
 use Rattle.row.specs.Table.{storeRow, wipeKey}
 use Rattle.token.specs.declared.calls.Call.{Call}
@@ -11,7 +11,7 @@ use Rattle.token.specs.declared.answers.Refusal.{Refusal}
 use Rattle.token.specs.declared.answers.Answer.{Answer}
 use Rattle.token.specs.declared.serving.Served.{Served}
 use Rattle.token.specs.Calls.{isVoid}
-use Rattle.token.specs.Serving.{serving, querying}
+use Rattle.token.specs.Serving.{served, querying}
 
 -- an answer, and a table of bytes
 pub record Result : Type 0 where
@@ -31,10 +31,10 @@ secretAt s at = take (rowAt s at .length) (drop (at + 16) s)
 abbrev pub stored : List ℕ → ℕ → Served → Result
 stored s at d = record { answer = d .answer; table = cond (wipes (d .answer)) (wipeKey (storeRow s at (d .row)) at) (storeRow s at (d .row)) }
 
-unfoldable pub servedAt : List ℕ → ℕ → Call → ℕ → List ℕ → List ℕ → List ℕ → Result
-servedAt s at call clock challenge presented following =
+unfoldable pub servedAt : PasswordRule → List ℕ → ℕ → Call → ℕ → List ℕ → List ℕ → List ℕ → Result
+servedAt passwords s at call clock challenge presented following =
     cond (wellFormed s at)
-    (stored s at (serving call (rowAt s at) clock (λ k size. checkOf k clock size (secretAt s at) challenge presented following)))
+    (stored s at (served passwords call (rowAt s at) (secretAt s at) clock challenge presented following))
     (record { answer = Answer.Refused Refusal.Damaged; table = s })
 
 unfoldable pub queriedAt : List ℕ → ℕ → ℕ → Answer

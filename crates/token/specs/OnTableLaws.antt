@@ -14,7 +14,7 @@ use Rattle.words.specs.Tables.{and-left}
 use Rattle.otp.specs.Password.{challengeOk, argumentsOk}
 use Rattle.window.specs.Window.{Sound}
 use Rattle.window.specs.PasswordAtLaws.{inRange}
-use Rattle.window.specs.TokenCheck.{checkOf}
+use Rattle.window.specs.PasswordAt.{passwordAt}
 use Rattle.row.specs.declared.Row.{Row}
 use Rattle.row.specs.declared.reading.RowRead.{RowRead}
 use Rattle.row.specs.declared.reading.RowRead.the-variants.{Good, Damaged}
@@ -25,7 +25,7 @@ use Rattle.token.specs.declared.calls.Call.{Call}
 use Rattle.token.specs.declared.answers.Refusal.{Refusal}
 use Rattle.token.specs.declared.answers.Answer.{Answer}
 use Rattle.token.specs.declared.serving.Served.{Served}
-use Rattle.token.specs.Serving.{serving, querying}
+use Rattle.token.specs.Serving.{served, querying}
 use Rattle.token.specs.OnTable.{wipes, secretAt, servedAt, queriedAt}
 
 or-true : (b : Bool) → b || true ≡ true
@@ -73,19 +73,19 @@ module _ (s : List ℕ) (at : ℕ) {x : RowRead} (read : x ≡ readRow s at) whe
 
 module _ (s : List ℕ) (at : ℕ) (call : Call) (clock : ℕ) (challenge presented following : List ℕ) where
   pub served-damaged : wellFormed s at ≡ false
-      → (Answer.Refused Refusal.Damaged ≡ servedAt s at call clock challenge presented following .answer) × (s ≡ servedAt s at call clock challenge presented following .table)
+      → (Answer.Refused Refusal.Damaged ≡ servedAt passwordAt s at call clock challenge presented following .answer) × (s ≡ servedAt passwordAt s at call clock challenge presented following .table)
   unfolding servedAt
   served-damaged e = rw e (refl, refl)
 
   module _ (good : wellFormed s at ≡ true) {d : Served}
-      (e : d ≡ serving call (rowAt s at) clock (λ k size. checkOf k clock size (secretAt s at) challenge presented following)) where
+      (e : d ≡ served passwordAt call (rowAt s at) (secretAt s at) clock challenge presented following) where
     pub served-wiped : {after : List ℕ} → wipes (d .answer) ≡ true → after ≡ wipeKey (storeRow s at (d .row)) at
-        → (d .answer ≡ servedAt s at call clock challenge presented following .answer) × (after ≡ servedAt s at call clock challenge presented following .table)
+        → (d .answer ≡ servedAt passwordAt s at call clock challenge presented following .answer) × (after ≡ servedAt passwordAt s at call clock challenge presented following .table)
     unfolding servedAt
     served-wiped t p = rw (good, ← e, t) (refl, p)
 
     pub served-kept : {after : List ℕ} → wipes (d .answer) ≡ false → after ≡ storeRow s at (d .row)
-        → (d .answer ≡ servedAt s at call clock challenge presented following .answer) × (after ≡ servedAt s at call clock challenge presented following .table)
+        → (d .answer ≡ servedAt passwordAt s at call clock challenge presented following .answer) × (after ≡ servedAt passwordAt s at call clock challenge presented following .table)
     unfolding servedAt
     served-kept t p = rw (good, ← e, t) (refl, p)
 
@@ -120,9 +120,9 @@ module _ (s : List ℕ) (at clock : ℕ) (challenge : List ℕ) {r : Row} (room 
       (row-sound (rowAt s at) (numbers-of s at good) clock h, row-in-range (rowAt s at) (secretAt s at) challenge (numbers-of s at good) (length-secret s at room good) c)
 
   pub served-lent : (call : Call) (presented following : List ℕ) {d : Served}
-      → d ≡ serving call r clock (λ k size. checkOf k clock size (take (at + 16 + r .length - (at + 16)) (drop (at + 16) s)) challenge presented following)
-      → d ≡ serving call (rowAt s at) clock (λ k size. checkOf k clock size (secretAt s at) challenge presented following)
+      → d ≡ served passwordAt call r (take (at + 16 + r .length - (at + 16)) (drop (at + 16) s)) clock challenge presented following
+      → d ≡ served passwordAt call (rowAt s at) (secretAt s at) clock challenge presented following
   served-lent call presented following e =
       e
-      ∙ ap (λ (x : Row). serving call x clock (λ k size. checkOf k clock size (take (at + 16 + x .length - (at + 16)) (drop (at + 16) s)) challenge presented following)) read
-      ∙ ap (λ (key : List ℕ). serving call (rowAt s at) clock (λ k size. checkOf k clock size key challenge presented following)) (key-lent s at refl)
+      ∙ ap (λ (x : Row). served passwordAt call x (take (at + 16 + x .length - (at + 16)) (drop (at + 16) s)) clock challenge presented following) read
+      ∙ ap (λ (key : List ℕ). served passwordAt call (rowAt s at) key clock challenge presented following) (key-lent s at refl)

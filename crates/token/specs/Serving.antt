@@ -1,11 +1,14 @@
 -- What a call does with one well-formed row (document 01, Part 5 and "What a turned-down call says"): the answer and the row after it.
--- The check's outcome is a parameter: a call rests on the password rule only through it.
+-- The checks' outcomes are parameters, and so is the password rule: a call rests on no cipher.
 use Prim.Native.Nat.{ℕ}
 use mathlib.Core.Bool.{cond}
+use mathlib.Core.List.{List}
 use lib.Dec.{leb}
 use Rattle.window.specs.declared.Size.{Size}
 use Rattle.window.specs.declared.Track.{Track}
 use Rattle.window.specs.declared.Outcome.{Outcome}
+use Rattle.window.specs.PasswordAt.{PasswordRule, hasBy}
+use Rattle.window.specs.TokenCheck.{singleCheck, pairCheck}
 use Rattle.row.specs.declared.Row.{Row}
 use Rattle.token.specs.declared.calls.Call.{Call}
 use Rattle.token.specs.declared.calls.Checking.{Checking}
@@ -28,16 +31,27 @@ judging call r clock Outcome.Used = refusing (usedRefusal call) (failed call r c
 judging call r clock Outcome.Wrong = refusing (wrongRefusal call) (failed call r clock)
 
 -- a checked call is refused at or after the expiry
-abbrev pub checking : Call → Row → ℕ → (Track → Size → Outcome) → Checking → Served
-checking call r clock outcome Checking.Nothing = record { answer = Answer.Success call Content.Plain; row = moved call r }
-checking call r clock outcome (Checking.By size) = cond (leb (r .expiry .0) clock) (refusing Refusal.Expired r) (judging call r clock (outcome (r .track) size))
+abbrev pub timely : Call → Row → ℕ → Outcome → Served
+timely call r clock outcome = cond (leb (r .expiry .0) clock) (refusing Refusal.Expired r) (judging call r clock outcome)
+
+-- what a call checks; `single` and `pair` give the outcome by the token's window
+abbrev pub checking : Call → Row → ℕ → (Track → Size → Outcome) → (Track → Size → Outcome) → Checking → Served
+checking call r clock single pair Checking.Nothing = record { answer = Answer.Success call Content.Plain; row = moved call r }
+checking call r clock single pair (Checking.Single size) = timely call r clock (single (r .track) size)
+checking call r clock single pair (Checking.Pair size) = timely call r clock (pair (r .track) size)
 
 -- a call in the state that its row has once a wait has run out
-abbrev pub permitted : Call → Row → ℕ → (Track → Size → Outcome) → Served
-permitted call r clock outcome = cond (allowed call (r .state)) (checking call r clock outcome (checkingOf call)) (refusing (stateRefusal (r .state)) r)
+abbrev pub permitted : Call → Row → ℕ → (Track → Size → Outcome) → (Track → Size → Outcome) → Served
+permitted call r clock single pair = cond (allowed call (r .state)) (checking call r clock single pair (checkingOf call)) (refusing (stateRefusal (r .state)) r)
 
-unfoldable pub serving : Call → Row → ℕ → (Track → Size → Outcome) → Served
-serving call r clock outcome = permitted call (waited r clock) clock outcome
+unfoldable pub serving : Call → Row → ℕ → (Track → Size → Outcome) → (Track → Size → Outcome) → Served
+serving call r clock single pair = permitted call (waited r clock) clock single pair
+
+-- by a password rule and the token's key: what is presented is checked alone or, with the password that follows it, as a pair
+unfoldable pub served : PasswordRule → Call → Row → List ℕ → ℕ → List ℕ → List ℕ → List ℕ → Served
+served passwords call r key clock challenge presented following =
+    serving call r clock (λ k size. singleCheck k clock size (hasBy passwords (k .rule) key challenge presented))
+    (λ k size. pairCheck k clock size (hasBy passwords (k .rule) key challenge presented) (hasBy passwords (k .rule) key challenge following))
 
 -- a query reports a wait that has run out, and leaves the row
 unfoldable pub querying : Row → ℕ → Answer

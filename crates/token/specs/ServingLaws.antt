@@ -1,17 +1,19 @@
 -- What each branch of a call on one row returns.
 use Prim.Native.Nat.{ℕ, _+_, _^_, _≤_, _<_}
-use mathlib.Core.Path.{_≡_, sym, _∙_}
+use mathlib.Core.Path.{_≡_, refl, sym, _∙_}
 use mathlib.Core.Bool.{Bool, true, false, cond}
-use mathlib.Core.List.{List}
+use mathlib.Core.List.{List, [], _∷_}
 use native.Mathlib.Nat.{div-le-self}
 use native.Mathlib.Omega.{arith}
 use borrow.Author.Tests.{le-leb, lt-leb, ltb-false, eq-eqb}
 use lib.Dec.{eqb}
+use lib.ListN.{length}
 use Rattle.window.specs.declared.Size.{Size}
 use Rattle.window.specs.declared.Track.{Track}
 use Rattle.window.specs.declared.Outcome.{Outcome}
 use Rattle.window.specs.Window.{timeToken, stepAt, distance, farthest, candidate, beyond, Sound}
-use Rattle.window.specs.TokenCheck.{tooFar, checkOf}
+use Rattle.window.specs.PasswordAt.{passwordAt, hasBy, hasPassword}
+use Rattle.window.specs.TokenCheck.{tooFar, singleCheck, pairCheck, checkOf}
 use Rattle.window.specs.TokenCheckLaws.{check-accepts-candidate}
 use Rattle.window.specs.Meaning.{candidate-bounded, candidate-near}
 use Rattle.row.specs.declared.Row.{Row}
@@ -24,7 +26,7 @@ use Rattle.token.specs.declared.serving.Served.{Served}
 use Rattle.token.specs.Calls.{allowed, checkingOf, stateRefusal}
 use Rattle.token.specs.States.{waited, moved}
 use Rattle.token.specs.StatesLaws.{Near, NearIfAccepted}
-use Rattle.token.specs.Serving.{refusing, judging, checking, serving}
+use Rattle.token.specs.Serving.{refusing, judging, timely, serving, served}
 
 -- a candidate may be accepted
 candidate-accepted : (k : Track) (clock : ℕ) (size : Size) (a : ℕ) → Sound k clock → candidate k clock size a ≡ true → Near k clock a
@@ -48,24 +50,59 @@ checked-near k clock size key challenge presented following Outcome.TooFar good 
 checked-near k clock size key challenge presented following Outcome.Used good e = tt
 checked-near k clock size key challenge presented following Outcome.Wrong good e = tt
 
-module _ (call : Call) (r : Row) (clock : ℕ) (outcome : Track → Size → Outcome) (size : Size) {x : Served} where
-  pub checking-expired : r .expiry .0 ≤ clock → x ≡ refusing Refusal.Expired r → x ≡ checking call r clock outcome (Checking.By size)
-  checking-expired l e = rw (le-leb (r .expiry .0) clock l) e
+-- a call with a pair check has a second password, and one with a single check has none
+abbrev pub Fitting : Checking → List ℕ → Type 0
+Fitting (Checking.Single size) following = following ≡ []
+Fitting (Checking.Pair size) following = 0 < length following
+Fitting Checking.Nothing following = Unit {0}
 
-  pub checking-judged : {o : Outcome} → clock < r .expiry .0 → o ≡ outcome (r .track) size → x ≡ judging call r clock o → x ≡ checking call r clock outcome (Checking.By size)
-  checking-judged l p e = rw (lt-leb (r .expiry .0) clock l, ← p) e
+module _ (k : Track) (clock : ℕ) (size : Size) (key challenge presented : List ℕ) where
+  check-single : (following : List ℕ) → following ≡ []
+      → checkOf k clock size key challenge presented following ≡ singleCheck k clock size (hasBy passwordAt (k .rule) key challenge presented)
+  unfolding checkOf hasPassword
+  check-single following e = rw e
 
-module _ (call : Call) (r : Row) (clock : ℕ) (outcome : Track → Size → Outcome) {w : Row} {b : Bool}
+  check-pair : (following : List ℕ) → 0 < length following
+      → checkOf k clock size key challenge presented following
+      ≡ pairCheck k clock size (hasBy passwordAt (k .rule) key challenge presented) (hasBy passwordAt (k .rule) key challenge following)
+  unfolding checkOf hasPassword
+  check-pair [] l = absurd (omega arith)
+  check-pair (b ∷ following) l = refl
+
+module _ (call : Call) (r : Row) (clock : ℕ) (outcome : Outcome) {x : Served} where
+  pub timely-expired : r .expiry .0 ≤ clock → x ≡ refusing Refusal.Expired r → x ≡ timely call r clock outcome
+  timely-expired l e = rw (le-leb (r .expiry .0) clock l) e
+
+  pub timely-judged : {o : Outcome} → clock < r .expiry .0 → o ≡ outcome → x ≡ judging call r clock o → x ≡ timely call r clock outcome
+  timely-judged l p e = rw (lt-leb (r .expiry .0) clock l, ← p) e
+
+module _ (call : Call) (r : Row) (key : List ℕ) (clock : ℕ) (challenge presented following : List ℕ) {w : Row} {b : Bool}
     (wait : w ≡ waited r clock) (test : b ≡ allowed call (w .state)) where
-  pub serving-refused : {f : Refusal} {x : Served} → b ≡ false → f ≡ stateRefusal (w .state) → x ≡ refusing f w → x ≡ serving call r clock outcome
-  unfolding serving
-  serving-refused t e p = rw (← wait, ← test, t, ← e) p
+  pub served-refused : {f : Refusal} {x : Served} → b ≡ false → f ≡ stateRefusal (w .state) → x ≡ refusing f w
+      → x ≡ served passwordAt call r key clock challenge presented following
+  unfolding served serving
+  served-refused t e p = rw (← wait, ← test, t, ← e) p
 
   module _ {z : Checking} (t : b ≡ true) (told : z ≡ checkingOf call) where
-    pub serving-checked : {size : Size} {x : Served} → z ≡ Checking.By size → x ≡ checking call w clock outcome (Checking.By size) → x ≡ serving call r clock outcome
-    unfolding serving
-    serving-checked e p = let c = sym told ∙ e in rw (← wait, ← test, t, c) p
+    pub served-single : {size : Size} {x : Served} → z ≡ Checking.Single size → Fitting (checkingOf call) following
+        → x ≡ timely call w clock (checkOf (w .track) clock size key challenge presented following)
+        → x ≡ served passwordAt call r key clock challenge presented following
+    unfolding served serving
+    served-single {size} e fit p =
+        let c = sym told ∙ e in
+        let alone : following ≡ [] = rw c at fit in
+        rw (← wait, ← test, t, c, ← check-single (w .track) clock size key challenge presented following alone) p
 
-    pub serving-plain : {y : Row} → z ≡ Checking.Nothing → y ≡ moved call w → _≡_ {A = Served} (record { answer = Answer.Success call Content.Plain; row = y }) (serving call r clock outcome)
-    unfolding serving
-    serving-plain e p = let c = sym told ∙ e in rw (← wait, ← test, t, c, p)
+    pub served-pair : {size : Size} {x : Served} → z ≡ Checking.Pair size → Fitting (checkingOf call) following
+        → x ≡ timely call w clock (checkOf (w .track) clock size key challenge presented following)
+        → x ≡ served passwordAt call r key clock challenge presented following
+    unfolding served serving
+    served-pair {size} e fit p =
+        let c = sym told ∙ e in
+        let followed : 0 < length following = rw c at fit in
+        rw (← wait, ← test, t, c, ← check-pair (w .track) clock size key challenge presented following followed) p
+
+    pub served-plain : {y : Row} → z ≡ Checking.Nothing → y ≡ moved call w
+        → _≡_ {A = Served} (record { answer = Answer.Success call Content.Plain; row = y }) (served passwordAt call r key clock challenge presented following)
+    unfolding served serving
+    served-plain e p = let c = sym told ∙ e in rw (← wait, ← test, t, c, p)

@@ -87,7 +87,7 @@ setCases =
     ∷ case 9 (sameBytes (candidatesFrom (2 ^ 32 - 20) 40 (eventTrack (2 ^ 32 - 1)) 0 Small) ((2 ^ 32 - 2) ∷ (2 ^ 32 - 1) ∷ []))
     ∷ case 10 (sameBytes (candidatesFrom 1590 20 (timeTrack 1 1200) 1000 Small) (1598 ∷ 1599 ∷ 1600 ∷ []))
     ∷ case 11 ((not (waitOver (tokenIn 3 1000) 999) && not (waitOver (tokenIn 3 1000) 1059)) && waitOver (tokenIn 3 1000) 1060)
-    ∷ case 12 (eqb (serving Call.Login (limitOne (tokenIn 2 0)) 1000 (λ k size. Outcome.Wrong) .row .state) 3)
+    ∷ case 12 (eqb (serving Call.Login (limitOne (tokenIn 2 0)) 1000 (λ k size. Outcome.Wrong) (λ k size. Outcome.Wrong) .row .state) 3)
     ∷ []
 
 pub set-cases-hold : allHold setCases ≡ true

@@ -27,9 +27,10 @@ pub enum Call {
     Query,
 }
 
-// The window that a call checks a password against, if it does.
+// What a call checks: one password, or two in a row, against a window of a size.
 pub enum Checking {
-    By(Size),
+    Single(Size),
+    Pair(Size),
     Nothing,
 }
 
@@ -62,15 +63,15 @@ pub(crate) fn checking_of(call: Call) -> Checking
 {
     match call {
         Call::Load => Checking::Nothing,
-        Call::Login => Checking::By(Size::Small),
-        Call::ChallengeLogin => Checking::By(Size::Small),
-        Call::Activate => Checking::By(Size::Large),
+        Call::Login => Checking::Single(Size::Small),
+        Call::ChallengeLogin => Checking::Single(Size::Small),
+        Call::Activate => Checking::Pair(Size::Large),
         Call::Lock => Checking::Nothing,
-        Call::Unlock => Checking::By(Size::Small),
+        Call::Unlock => Checking::Single(Size::Small),
         Call::Suspend => Checking::Nothing,
-        Call::Resume => Checking::By(Size::Small),
-        Call::SyncMedium => Checking::By(Size::Medium),
-        Call::SyncLarge => Checking::By(Size::Large),
+        Call::Resume => Checking::Single(Size::Small),
+        Call::SyncMedium => Checking::Pair(Size::Medium),
+        Call::SyncLarge => Checking::Pair(Size::Large),
         Call::Void => Checking::Nothing,
         Call::Query => Checking::Nothing,
     }

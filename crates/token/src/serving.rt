@@ -23,10 +23,13 @@ use window::check;
 ghost use mathlib.Core.Path.{_≡_};
 ghost use mathlib.Core.Bool.{true};
 ghost use Rattle.window.specs.Window.{Sound};
+ghost use Rattle.window.specs.PasswordAt.{passwordAt};
 ghost use Rattle.window.specs.PasswordAtLaws.{inRange};
 ghost use Rattle.window.specs.TokenCheck.{checkOf};
-ghost use Rattle.token.specs.Serving.{refusing, judging, checking, serving, querying};
+ghost use Rattle.token.specs.Calls.{checkingOf};
+ghost use Rattle.token.specs.Serving.{refusing, judging, timely, served, querying};
 ghost use Rattle.token.specs.StatesLaws.{NearIfAccepted};
+ghost use Rattle.token.specs.ServingLaws.{Fitting};
 
 pub struct Served {
     pub answer: Answer,
@@ -74,7 +77,7 @@ fn checked(
 ) -> Served
     requires { ⌜ Sound (row .track) (clock .0) ⌝ }
     requires { ⌜ inRange (row .track .rule) (now key) (now challenge) ≡ true ⌝ }
-    ensures { λ r. ⌜ r ≡ checking call row (clock .0) (λ k z. checkOf k (clock .0) z (now (key .entry)) (now (challenge .entry)) (now (presented .entry)) (now (following .entry))) (Checking.By size) ⌝ }
+    ensures { λ r. ⌜ r ≡ timely call row (clock .0) (checkOf (row .track) (clock .0) size (now (key .entry)) (now (challenge .entry)) (now (presented .entry)) (now (following .entry))) ⌝ }
 {
     if row.expiry.0 <= clock.0 {
         return refusing(Refusal::Expired, row);
@@ -83,8 +86,7 @@ fn checked(
     judging(call, row, clock, outcome)
 }
 
-// The answer to a call that names this token, and the row after it. Passwords and challenge that a call does not have are
-// empty; the passwords that it has are not, since an empty second one is none.
+// The answer to a call that names this token, and the row after it. Passwords and challenge that a call does not have are empty.
 pub fn serve(
     call: Call,
     row: Row,
@@ -96,14 +98,25 @@ pub fn serve(
 ) -> Served
     requires { ⌜ Sound (row .track) (clock .0) ⌝ }
     requires { ⌜ inRange (row .track .rule) (now key) (now challenge) ≡ true ⌝ }
-    ensures { λ r. ⌜ r ≡ serving call row (clock .0) (λ k z. checkOf k (clock .0) z (now (key .entry)) (now (challenge .entry)) (now (presented .entry)) (now (following .entry))) ⌝ }
+    requires { ⌜ Fitting (checkingOf call) (now following) ⌝ }
+    ensures { λ r. ⌜ r ≡ served passwordAt call row (now (key .entry)) (clock .0) (now (challenge .entry)) (now (presented .entry)) (now (following .entry)) ⌝ }
 {
     let found = waited(row, clock);
     if !allowed(call, found.state) {
         return refusing(state_refusal(found.state), found);
     }
     match checking_of(call) {
-        Checking::By(size) => checked(
+        Checking::Single(size) => checked(
+            call,
+            found,
+            clock,
+            size,
+            key,
+            challenge,
+            presented,
+            following,
+        ),
+        Checking::Pair(size) => checked(
             call,
             found,
             clock,

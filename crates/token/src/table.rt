@@ -15,6 +15,9 @@ ghost use mathlib.Core.Bool.{true};
 ghost use Prim.Native.Nat.{_+_, _^_, _≤_, _<_};
 ghost use lib.ListN.{length};
 ghost use Rattle.otp.specs.Password.{challengeOk};
+ghost use Rattle.window.specs.PasswordAt.{passwordAt};
+ghost use Rattle.token.specs.Calls.{checkingOf};
+ghost use Rattle.token.specs.ServingLaws.{Fitting};
 ghost use Rattle.token.specs.OnTable.{wipes, servedAt, queriedAt};
 
 const KEY: usize = 16;
@@ -42,8 +45,9 @@ pub fn serve_at(
     requires { ⌜ at + 96 ≤ length (now table) ⌝ }
     requires { ⌜ clock .0 < 2 ^ 40 ⌝ }
     requires { ⌜ challengeOk (now challenge) ≡ true ⌝ }
-    ensures { λ r. ⌜ r ≡ servedAt (now (table .entry)) at call (clock .0) (now (challenge .entry)) (now (presented .entry)) (now (following .entry)) .answer ⌝ }
-    ensures { λ _. ⌜ now (table .exit) ≡ servedAt (now (table .entry)) at call (clock .0) (now (challenge .entry)) (now (presented .entry)) (now (following .entry)) .table ⌝ }
+    requires { ⌜ Fitting (checkingOf call) (now following) ⌝ }
+    ensures { λ r. ⌜ r ≡ servedAt passwordAt (now (table .entry)) at call (clock .0) (now (challenge .entry)) (now (presented .entry)) (now (following .entry)) .answer ⌝ }
+    ensures { λ _. ⌜ now (table .exit) ≡ servedAt passwordAt (now (table .entry)) at call (clock .0) (now (challenge .entry)) (now (presented .entry)) (now (following .entry)) .table ⌝ }
 {
     let RowRead::Good(_, row) = read_row(table, at) else {
         return Answer::Refused(Refusal::Damaged);

@@ -20,6 +20,13 @@ countOf kind s = cond (eqb kind timeToken) Absent (Present s)
 unfoldable pub passwordAt : Rule → List ℕ → List ℕ → ℕ → List ℕ
 passwordAt rule key challenge s = passwordOf (rule .algorithm) key (timeOf (rule .kind) s) (countOf (rule .kind) s) challenge (rule .digits)
 
--- step s has this password; one of another length it has not
+-- a password rule: the digits of a step, from a token's rule, its key and the challenge; `passwordAt` is the standard's
+abbrev pub PasswordRule : Type 0
+PasswordRule = Rule → List ℕ → List ℕ → ℕ → List ℕ
+
+-- by a password rule, step s has this password; one of another length it has not
+abbrev pub hasBy : PasswordRule → Rule → List ℕ → List ℕ → List ℕ → ℕ → Bool
+hasBy passwords rule key challenge presented s = sameBytes presented (passwords rule key challenge s)
+
 unfoldable pub hasPassword : Rule → List ℕ → List ℕ → List ℕ → ℕ → Bool
-hasPassword rule key challenge presented s = sameBytes presented (passwordAt rule key challenge s)
+hasPassword rule key challenge presented s = hasBy passwordAt rule key challenge presented s

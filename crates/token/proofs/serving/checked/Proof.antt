@@ -1,5 +1,5 @@
 use Rattle.window.specs.TokenCheck.{checkOf}
-use Rattle.token.specs.ServingLaws.{checked-near, checking-expired, checking-judged}
+use Rattle.token.specs.ServingLaws.{checked-near, timely-expired, timely-judged}
 use borrow.Author.Needs.{needs}
 use Rattle.token.proofs.serving.checked.Statement.{statement}
 use Rattle.token.proofs.serving.checked.Tie as tie
@@ -8,7 +8,7 @@ refusing-requires : tie.Need-refusing-requires
 refusing-requires c κs = search needs
 
 returns : tie.Need-returns
-returns c = let a = c .before .before .before .before .before .before .before .before .args in checking-expired (a .call) (a .row) (a .clock .0) (λ k z. checkOf k (a .clock .0) z (a .key .now) (a .challenge .now) (a .presented .now) (a .following .now)) (a .size) (c .before .if1 .taken) (c .refusing .ensures)
+returns c = let a = c .before .before .before .before .before .before .before .before .args in timely-expired (a .call) (a .row) (a .clock .0) (checkOf (a .row .track) (a .clock .0) (a .size) (a .key .now) (a .challenge .now) (a .presented .now) (a .following .now)) (c .before .if1 .taken) (c .refusing .ensures)
 
 check-requires : tie.Need-check-requires
 check-requires c κs = search needs
@@ -17,7 +17,7 @@ judging-requires : tie.Need-judging-requires
 judging-requires c κs = let a = c .before .before .before .before .before .before .before .before .args in (c .before .before .before .before .before .before .before .before .pre .0, checked-near (a .row .track) (a .clock .0) (a .size) (a .key .now) (a .challenge .now) (a .presented .now) (a .following .now) (c .check .result) (c .before .before .before .before .before .before .before .before .pre .0) (c .check .ensures))
 
 returns-2 : tie.Need-returns-2
-returns-2 c = let a = c .before .before .before .before .before .before .before .before .before .args in checking-judged (a .call) (a .row) (a .clock .0) (λ k z. checkOf k (a .clock .0) z (a .key .now) (a .challenge .now) (a .presented .now) (a .following .now)) (a .size) (c .before .before .if1 .left) (c .before .check .ensures) (c .judging .ensures)
+returns-2 c = let a = c .before .before .before .before .before .before .before .before .before .args in timely-judged (a .call) (a .row) (a .clock .0) (checkOf (a .row .track) (a .clock .0) (a .size) (a .key .now) (a .challenge .now) (a .presented .now) (a .following .now)) (c .before .before .if1 .left) (c .before .check .ensures) (c .judging .ensures)
 
 pub checked-spec : {M : Type 1} → statement M
 checked-spec =

@@ -40,7 +40,7 @@ part-serve-end : tie.Need-part-serve-end
 part-serve-end c = let g = good-read (c .before .before .before .before .before .before .before .before .before .before .before .args .table .now) (c .before .before .before .before .before .before .before .before .before .before .before .args .at) (c .before .before .before .before .before .read-row .ensures) (c .before .before .before .row .given .1) in omega (arith, key-within (c .before .before .before .before .before .before .before .before .before .before .before .args .table .now) (c .before .before .before .before .before .before .before .before .before .before .before .args .at) (c .before .before .before .before .before .before .before .before .before .before .before .args .clock .0) (c .before .before .before .before .before .before .before .before .before .before .before .args .challenge .now) (c .before .before .before .before .before .before .before .before .before .before .before .pre .0) (g .0) (g .1))
 
 serve-requires : tie.Need-serve-requires
-serve-requires c κs = let g = good-read (c .before .before .before .before .before .before .before .before .before .before .before .before .args .table .now) (c .before .before .before .before .before .before .before .before .before .before .before .before .args .at) (c .before .before .before .before .before .before .read-row .ensures) (c .before .before .before .before .row .given .1) in lent-in-range (c .before .before .before .before .before .before .before .before .before .before .before .before .args .table .now) (c .before .before .before .before .before .before .before .before .before .before .before .before .args .at) (c .before .before .before .before .before .before .before .before .before .before .before .before .args .clock .0) (c .before .before .before .before .before .before .before .before .before .before .before .before .args .challenge .now) (c .before .before .before .before .before .before .before .before .before .before .before .before .pre .0) (g .0) (g .1) (c .before .before .before .before .before .before .before .before .before .before .before .before .pre .1 .0) (c .before .before .before .before .before .before .before .before .before .before .before .before .pre .1 .1)
+serve-requires c κs = let g = good-read (c .before .before .before .before .before .before .before .before .before .before .before .before .args .table .now) (c .before .before .before .before .before .before .before .before .before .before .before .before .args .at) (c .before .before .before .before .before .before .read-row .ensures) (c .before .before .before .before .row .given .1) in let l = lent-in-range (c .before .before .before .before .before .before .before .before .before .before .before .before .args .table .now) (c .before .before .before .before .before .before .before .before .before .before .before .before .args .at) (c .before .before .before .before .before .before .before .before .before .before .before .before .args .clock .0) (c .before .before .before .before .before .before .before .before .before .before .before .before .args .challenge .now) (c .before .before .before .before .before .before .before .before .before .before .before .before .pre .0) (g .0) (g .1) (c .before .before .before .before .before .before .before .before .before .before .before .before .pre .1 .0) (c .before .before .before .before .before .before .before .before .before .before .before .before .pre .1 .1 .0) in (l .0, (l .1, c .before .before .before .before .before .before .before .before .before .before .before .before .pre .1 .1 .1))
 
 store-row-requires : tie.Need-store-row-requires
 store-row-requires c κs = c .before .before .before .before .before .before .before .before .before .before .before .before .before .before .before .pre .0
