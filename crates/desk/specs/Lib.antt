@@ -1,0 +1,3 @@
+-- The desk: its calls, and what each says and leaves in the table.
+pub mod Requests
+pub mod Desk

@@ -1,0 +1,4 @@
+-- The ledger machine (a term of document 01), and the buyer's third demand.
+pub mod Ledger
+pub mod Promise
+pub mod Tokens

@@ -1,0 +1,1 @@
+// The ledger machine and demand 3: definitions and theorems only.
