@@ -12,7 +12,7 @@ use Rattle.token.specs.declared.answers.Content.{Content}
 use Rattle.token.specs.declared.answers.Refusal.{Refusal}
 use Rattle.token.specs.declared.answers.Answer.{Answer}
 use Rattle.token.specs.OnTable.{Result, servedAt, queriedAt}
-use Rattle.desk.specs.declared.particulars.Particulars.{Particulars}
+use Rattle.desk.specs.declared.Particulars.{Particulars}
 use Rattle.desk.specs.Requests.{Request, DeskCall, tableOk, clockOk, requestOk, loadedRow, loadOk}
 
 -- a refusal that leaves the table unchanged

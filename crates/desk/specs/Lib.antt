@@ -1,3 +1,5 @@
 -- The desk: its calls, and what each says and leaves in the table.
 pub mod Requests
 pub mod Desk
+pub mod ArgumentsLaws
+pub mod DeskLaws

@@ -1,15 +1,16 @@
 -- The calls with their arguments, and which arguments are in range (document 01, Part 5 and "What a turned-down call says", 9005).
 use Prim.Native.Nat.{ℕ, _^_, _/_, _%_}
 use mathlib.Core.Bool.{Bool, true, _&&_, _||_}
-use mathlib.Core.List.{List, [], _∷_}
+use mathlib.Core.List.{List}
 use lib.Dec.{eqb, leb, ltb}
 use lib.ListN.{length}
+use Rattle.words.specs.Lists.{allWithin}
 use Rattle.otp.specs.Password.{challengeOk}
 use Rattle.window.specs.Window.{farthest}
 use Rattle.row.specs.declared.Row.{Row}
 use Rattle.row.specs.Row.{rowBytes, numbersOk}
 use Rattle.token.specs.Calls.{inactive}
-use Rattle.desk.specs.declared.particulars.Particulars.{Particulars}
+use Rattle.desk.specs.declared.Particulars.{Particulars}
 
 -- what is asked of a token that a call names, with the arguments of its own: passwords and a challenge are bytes
 pub data Request : Type 0 where
@@ -38,13 +39,9 @@ tableOk s = eqb (length s % rowBytes) 0 && (leb 1 (length s / rowBytes) && leb (
 abbrev pub clockOk : ℕ → Bool
 clockOk clock = ltb clock (2 ^ 40)
 
-unfoldable pub digitsOnly : List ℕ → Bool
-digitsOnly [] = true
-digitsOnly (x ∷ s) = (leb 0x30 x && leb x 0x39) && digitsOnly s
-
 -- 6 to 10 ASCII digits
 unfoldable pub passwordOk : List ℕ → Bool
-passwordOk p = (leb 6 (length p) && leb (length p) 10) && digitsOnly p
+passwordOk p = (leb 6 (length p) && leb (length p) 10) && allWithin 0x30 0x39 p
 
 -- a challenge login needs its challenge
 unfoldable pub challengeGiven : List ℕ → Bool

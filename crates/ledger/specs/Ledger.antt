@@ -22,7 +22,7 @@ use Rattle.token.specs.declared.answers.Refusal.{Refusal}
 use Rattle.token.specs.declared.answers.Answer.{Answer}
 use Rattle.token.specs.Codes.{numberOf}
 use Rattle.token.specs.States.{offsetAfter}
-use Rattle.desk.specs.declared.particulars.Particulars.{Particulars}
+use Rattle.desk.specs.declared.Particulars.{Particulars}
 use Rattle.desk.specs.Requests.{Request, DeskCall, clockOk, requestOk, loadOk}
 use Rattle.desk.specs.Desk.{Run, preceded}
 

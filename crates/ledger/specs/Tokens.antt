@@ -18,7 +18,7 @@ use Rattle.token.specs.declared.answers.Answer.{Answer}
 use Rattle.token.specs.declared.serving.Served.{Served}
 use Rattle.token.specs.Serving.{served, querying}
 use Rattle.token.specs.OnTable.{wipes}
-use Rattle.desk.specs.declared.particulars.Particulars.{Particulars}
+use Rattle.desk.specs.declared.Particulars.{Particulars}
 use Rattle.desk.specs.Requests.{Request, DeskCall, clockOk, requestOk, loadedRow, loadOk}
 use Rattle.desk.specs.Desk.{syncCall}
 

@@ -5,6 +5,7 @@ use mathlib.Core.List.{List, [], _∷_, _++_}
 use lib.Dec.{eqb, leb, ltb}
 use lib.ListN.{length, take, drop, replicate}
 use Rattle.words.specs.Bytes.{beAt, beBytes}
+use Rattle.words.specs.Lists.{allWithin}
 use Rattle.words.specs.Codes.{done, badArgument}
 use Rattle.words.specs.Output.{Left, stored}
 use Rattle.sm3.specs.Sm3.{sm3Of}
@@ -95,12 +96,9 @@ abbrev pub isBelow : ℕ → Factor → Bool
 isBelow limit Absent = true
 isBelow limit (Present x) = ltb x limit
 
-unfoldable pub printable : List ℕ → Bool
-printable [] = true
-printable (x ∷ s) = (leb 0x21 x && leb x 0x7e) && printable s
-
+-- 4 to 32 bytes, each 21 to 7e hexadecimal; an empty challenge is none
 unfoldable pub challengeOk : List ℕ → Bool
-challengeOk q = eqb (length q) 0 || ((leb 4 (length q) && leb (length q) 32) && printable q)
+challengeOk q = eqb (length q) 0 || ((leb 4 (length q) && leb (length q) 32) && allWithin 0x21 0x7e q)
 
 unfoldable pub argumentsOk : ℕ → List ℕ → Factor → Factor → List ℕ → ℕ → Bool
 argumentsOk algorithm key time count challenge n =

@@ -9,26 +9,16 @@ use native.Mathlib.Omega.{arith}
 use borrow.Author.Tests.{eq-eqb, ne-eqb, eqb-true, leb-true}
 use lib.Arith.{mod-mul}
 use lib.Dec.{eqb, leb}
-use lib.ListN.{length, getD, set, drop, length-append, length-set, drop-of-length-le}
+use lib.ListN.{length, getD, set, drop, length-append, length-set}
 use lib.Seq.{drop-cons, drop-set-lt, getD-set-same}
+use Rattle.words.specs.Lists.{allWithin}
 use Rattle.words.specs.Bytes.{beAt}
-use Rattle.words.specs.ListsLaws.{and-true, and-assoc}
 use Rattle.words.specs.Codes.{done, badArgument}
 use Rattle.words.specs.OutputLaws.{stored-refusal, stored-short, stored-whole}
 use Rattle.words.specs.Tables.{and-left, and-right}
 use Rattle.sm3.specs.Sm3.{sm3Of}
 use Rattle.otp.specs.declared.Factor.{Factor}
-use Rattle.otp.specs.Password.{printable, challengeOk, argumentsOk, idOf, filled, keyed, chained, wordSum, cut, decimals, shown, passwordOf, passwordAnswer, algorithmSm3, algorithmSm4}
-
--- one more byte of the challenge is tested
-pub printable-more : (s : List ℕ) (i : ℕ) (clean : Bool) → i < length s
-    → clean && printable (drop i s) ≡ (clean && (leb 0x21 (getD s i 0) && leb (getD s i 0) 0x7e)) && printable (drop (i + 1) s)
-unfolding printable
-printable-more s i clean h = rw (add-one, and-assoc, drop-cons s i 0)
-
-pub printable-end : (s : List ℕ) (i : ℕ) (clean : Bool) → length s ≤ i → clean && printable (drop i s) ≡ clean
-unfolding printable
-printable-end s i clean h = rw (drop-of-length-le s h) (and-true clean)
+use Rattle.otp.specs.Password.{challengeOk, argumentsOk, idOf, filled, keyed, chained, wordSum, cut, decimals, shown, passwordOf, passwordAnswer, algorithmSm3, algorithmSm4}
 
 -- one more word is added
 pub sum-more : (s : List ℕ) (i : ℕ) {sum w r : ℕ} → sum ≡ wordSum i s % 2 ^ 32 → w ≡ beAt 4 s (4 * i) → r ≡ (sum + w) % 2 ^ 32 → r ≡ wordSum (i + 1) s % 2 ^ 32
@@ -131,7 +121,7 @@ module _ (algorithm : ℕ) (key : List ℕ) (time count : Factor) (challenge : L
   unfolding argumentsOk challengeOk
   challenge-short =
       let t : challengeOk challenge ≡ true = search (and-left, and-right) depth 12 in
-      either (eqb (length challenge) 0) (leb 4 (length challenge)) (leb (length challenge) 32) (printable challenge) t
+      either (eqb (length challenge) 0) (leb 4 (length challenge)) (leb (length challenge) 32) (allWithin 0x21 0x7e challenge) t
       (λ e. let l = eqb-true (length challenge) 0 e in omega arith)
       (λ e. leb-true (length challenge) 32 e)
     where

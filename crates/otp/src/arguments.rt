@@ -1,7 +1,8 @@
 // Whether the arguments are in range (document 01, Part 2).
 use crate::Factor;
+use words::bytes::within;
 ghost use mathlib.Core.Path.{_≡_};
-ghost use Rattle.otp.specs.Password.{isGiven, isBelow, printable, challengeOk, argumentsOk};
+ghost use Rattle.otp.specs.Password.{isGiven, isBelow, challengeOk, argumentsOk};
 
 fn is_given(factor: Factor) -> bool
     ensures { λ r. ⌜ r ≡ isGiven factor ⌝ }
@@ -21,24 +22,12 @@ fn is_below(limit: u64, factor: Factor) -> bool
     }
 }
 
-// Whether each byte is 21 to 7e hexadecimal.
-fn printable(challenge: &[u8]) -> bool
-    ensures { λ r. ⌜ r ≡ printable (now (challenge .entry)) ⌝ }
-{
-    let mut clean = true;
-    let mut i = 0;
-    while i < challenge.len() {
-        clean = clean & ((0x21 <= challenge[i]) & (challenge[i] <= 0x7e));
-        i += 1;
-    }
-    clean
-}
-
-fn challenge_ok(challenge: &[u8]) -> bool
+// A challenge has 4 to 32 bytes, each 21 to 7e hexadecimal; an empty one is none.
+pub fn challenge_ok(challenge: &[u8]) -> bool
     ensures { λ r. ⌜ r ≡ challengeOk (now (challenge .entry)) ⌝ }
 {
     let n = challenge.len();
-    (n == 0) | (((4 <= n) & (n <= 32)) & printable(challenge))
+    (n == 0) | (((4 <= n) & (n <= 32)) & within(challenge, 0x21, 0x7e))
 }
 
 pub fn arguments_ok(

@@ -7,6 +7,7 @@ mod once;
 pub mod prepared;
 
 pub use arguments::arguments_ok;
+pub use arguments::challenge_ok;
 use cut::put_decimals;
 use once::truncated_once;
 use words::codes::BAD_ARGUMENT;

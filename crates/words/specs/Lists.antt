@@ -2,7 +2,7 @@
 use Prim.Native.Nat.{ℕ}
 use mathlib.Core.Bool.{Bool, true, false, _&&_}
 use mathlib.Core.List.{List, [], _∷_}
-use lib.Dec.{eqb}
+use lib.Dec.{eqb, leb}
 
 -- a and b have the same length and the same bytes
 unfoldable pub sameBytes : List ℕ → List ℕ → Bool
@@ -15,3 +15,8 @@ sameBytes (x ∷ a) (y ∷ b) = eqb x y && sameBytes a b
 unfoldable pub allZero : List ℕ → Bool
 allZero [] = true
 allZero (x ∷ s) = eqb x 0 && allZero s
+
+-- every byte of s is low to high
+unfoldable pub allWithin : ℕ → ℕ → List ℕ → Bool
+allWithin low high [] = true
+allWithin low high (x ∷ s) = (leb low x && leb x high) && allWithin low high s

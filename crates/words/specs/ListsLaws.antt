@@ -6,10 +6,10 @@ use mathlib.Core.List.{List, [], _∷_}
 use native.Mathlib.Numerals.{add-one}
 use native.Mathlib.Omega.{arith}
 use borrow.Author.Tests.{eqb-true, eq-eqb}
-use lib.Dec.{eqb}
+use lib.Dec.{eqb, leb}
 use lib.ListN.{length, getD, drop, replicate, drop-of-length-le}
 use lib.Seq.{drop-cons}
-use Rattle.words.specs.Lists.{sameBytes, allZero}
+use Rattle.words.specs.Lists.{sameBytes, allZero, allWithin}
 use Rattle.words.specs.Tables.{and-left, and-right}
 
 pub and-true : (b : Bool) → b && true ≡ b
@@ -83,3 +83,14 @@ drop-zeros k n = drop-replicate k n 0
 pub by-test : {A : Type 0} (b : Bool) → (b ≡ true → A) → (b ≡ false → A) → A
 by-test true p q = p refl
 by-test false p q = q refl
+
+-- ---- allWithin
+
+pub within-more : (low high : ℕ) (s : List ℕ) (i : ℕ) (clean : Bool) → i < length s
+    → clean && allWithin low high (drop i s) ≡ (clean && (leb low (getD s i 0) && leb (getD s i 0) high)) && allWithin low high (drop (i + 1) s)
+unfolding allWithin
+within-more low high s i clean h = rw (add-one, and-assoc, drop-cons s i 0)
+
+pub within-end : (low high : ℕ) (s : List ℕ) (i : ℕ) (clean : Bool) → length s ≤ i → clean && allWithin low high (drop i s) ≡ clean
+unfolding allWithin
+within-end low high s i clean h = rw (drop-of-length-le s h) (and-true clean)

@@ -3,7 +3,7 @@ ghost use mathlib.Core.Path.{_≡_};
 ghost use Prim.Native.Nat.{_+_, _≤_, _<_, _^_};
 ghost use lib.ListN.{length};
 ghost use Rattle.words.specs.Bytes.{beAt, putBe};
-ghost use Rattle.words.specs.Lists.{sameBytes, allZero};
+ghost use Rattle.words.specs.Lists.{sameBytes, allZero, allWithin};
 
 // The number in the k bytes of s from at on.
 pub fn be_at(s: &[u8], at: usize, k: usize) -> u64
@@ -70,4 +70,17 @@ pub fn zeros(s: &[u8]) -> bool
         i += 1;
     }
     clear
+}
+
+// Whether each byte is low to high.
+pub fn within(s: &[u8], low: u8, high: u8) -> bool
+    ensures { λ r. ⌜ r ≡ allWithin low high (now (s .entry)) ⌝ }
+{
+    let mut clean = true;
+    let mut i = 0;
+    while i < s.len() {
+        clean = clean & ((low <= s[i]) & (s[i] <= high));
+        i += 1;
+    }
+    clean
 }
