@@ -1,4 +1,8 @@
 -- The ledger machine (a term of document 01), and the buyer's third demand.
+pub mod Described
+pub mod Entering
+pub mod Fresh
 pub mod Ledger
+pub mod OneTokenLaws
 pub mod Promise
 pub mod Tokens

@@ -1,0 +1,31 @@
+-- The tokens that a history describes, and what holds of every history that the ledger machine makes.
+use Prim.Native.Nat.{ℕ}
+use mathlib.Core.Path.{_≡_}
+use mathlib.Core.List.{List, [], _∷_}
+use mathlib.Core.Option.{none}
+use Rattle.window.specs.declared.Offset.{Offset}
+use Rattle.window.specs.Window.{farthest}
+use Rattle.ledger.specs.Ledger.{Entry, Loaded, loads, loadOf, nextOf, offsetOf, usedOf, rowOf, keyOf}
+use Rattle.ledger.specs.Tokens.{Token}
+
+abbrev pub tokenOf : List Entry → Loaded → Token
+tokenOf history l = record { row = rowOf l history; key = keyOf l history }
+
+unfoldable pub tokensOf : List Loaded → List Entry → List Token
+tokensOf [] history = []
+tokensOf (l ∷ ls) history = tokenOf history l ∷ tokensOf ls history
+
+-- no two of the loads have a serial in common
+abbrev pub Distinct : List Loaded → Type 0
+Distinct [] = Unit {0}
+Distinct (l ∷ ls) = (loadOf (l .particulars .serial) ls ≡ none) × Distinct ls
+
+-- no checked success names the serial
+pub record Unread (serial : ℕ) (history : List Entry) : Type 0 where
+  pub next : nextOf serial history ≡ 0
+  pub offset : offsetOf serial history ≡ record { 0 = farthest }
+  pub used : usedOf serial history ≡ 0
+
+pub record Consistent (history : List Entry) : Type 0 where
+  pub distinct : Distinct (loads history)
+  pub unread : (serial : ℕ) → loadOf serial (loads history) ≡ none → Unread serial history
