@@ -5,4 +5,5 @@ pub mod Fresh
 pub mod Ledger
 pub mod OneTokenLaws
 pub mod Promise
+pub mod RequestLaws
 pub mod Tokens

@@ -115,7 +115,7 @@ either-itself : (b : Bool) → b ≡ cond b true false
 either-itself true = refl
 either-itself false = refl
 
-none-larger : (n : ℕ) → max 0 n ≡ n
+pub none-larger : (n : ℕ) → max 0 n ≡ n
 none-larger n = omega arith
 
 -- ---- the parts of a call, on a row with the readings y; x is the reading before its wait ran out
