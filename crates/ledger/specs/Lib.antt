@@ -6,4 +6,5 @@ pub mod Ledger
 pub mod OneTokenLaws
 pub mod Promise
 pub mod RequestLaws
+pub mod TokenLaws
 pub mod Tokens
