@@ -2,6 +2,7 @@
 pub mod Described
 pub mod Entering
 pub mod Fresh
+pub mod HistoryLaws
 pub mod Ledger
 pub mod OneTokenLaws
 pub mod Promise
