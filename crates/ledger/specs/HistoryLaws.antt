@@ -1,8 +1,8 @@
 -- The tokens of a history, and one more call: the desk on tokens gives the ledger machine's answer and the tokens of the longer history.
-use Prim.Native.Nat.{ℕ, max, _≤_, _<_}
+use Prim.Native.Nat.{ℕ, suc, max, _≤_, _<_}
 use mathlib.Core.Path.{_≡_, refl, sym, ap, ap₂, _∙_}
 use mathlib.Core.Bool.{Bool, true, false, _&&_, _||_, cond}
-use mathlib.Core.List.{List, [], _∷_, _++_}
+use mathlib.Core.List.{List, [], _∷_, _++_, append-nil}
 use mathlib.Core.Option.{Option, none, some}
 use native.Mathlib.Omega.{arith}
 use borrow.Author.Tests.{eqb-true, eqb-false, eq-eqb, ne-eqb}
@@ -15,12 +15,19 @@ use Rattle.token.specs.declared.calls.Call.{Call}
 use Rattle.token.specs.declared.answers.Content.{Content}
 use Rattle.token.specs.declared.answers.Refusal.{Refusal}
 use Rattle.token.specs.declared.answers.Answer.{Answer}
+use Rattle.token.specs.Codes.{refusalNumber}
 use Rattle.desk.specs.declared.particulars.Particulars.{Particulars}
 use Rattle.desk.specs.Requests.{Request, DeskCall, clockOk, requestOk, loadedRow, loadOk}
-use Rattle.ledger.specs.Ledger.{Entry, Loaded, Reading, names, loads, loadOf, entered, reading, requestedOf, answerTo, rowOf, keyOf}
-use Rattle.ledger.specs.Tokens.{Token, Held, AllSane, servedAmong, hasToken, tokensAfter}
+use Rattle.ledger.specs.Ledger.{Entry, Loaded, Reading, names, loads, loadOf, isQuery, entered, reading, nextOf, offsetOf, usedOf, requestedOf, loadedOf, answerTo, rowOf, keyOf}
+use Rattle.ledger.specs.Tokens.{Token, Held, AllSane, servedAmong, hasToken, loadedAmong, tokensAfter}
 use Rattle.ledger.specs.Described.{tokenOf, tokensOf, Distinct, Unread, Consistent}
+use Rattle.ledger.specs.OneTokenLaws.{none-larger}
 use Rattle.ledger.specs.TokenLaws.{Unmoved, unnamed-unmoved, refused-unmoved, unnamed-stays, refused-stays, request-token}
+
+-- an answer, and the tokens of a history with the call and the answer entered
+abbrev pub after : DeskCall → Answer → List Entry → Held
+after call a history =
+    record { answer = a; tokens = tokensOf (loads (record { call = call; answer = a } ∷ history)) (record { call = call; answer = a } ∷ history) }
 
 -- ---- which loads have a serial
 
@@ -85,3 +92,99 @@ module _ (passwords : PasswordRule) (history : List Entry) (request : Request) (
       rw (same ∙ t) (held-equal (law .0) (law .1) (sym (apart-stay _ history serial (λ n. refl) ls (rw e at (apart .0))))))
       (λ f. rw (same ∙ f, served-among ls (apart .1) (sane .1) (rw f at q))
       (held-equal refl (sym (unnamed-stays _ history l (flipped (l .particulars .serial) serial f))) refl))
+
+-- ---- a load
+
+held-by : {a : Answer} {ts us : List Token} → ts ≡ us → _≡_ {A = Held} (record { answer = a; tokens = ts }) (record { answer = a; tokens = us })
+held-by e = cc
+
+abbrev isLoaded : Option Loaded → Bool
+isLoaded none = false
+isLoaded (some l) = true
+
+has-token : (serial : ℕ) (history : List Entry) (ls : List Loaded) → hasToken serial (tokensOf ls history) ≡ isLoaded (loadOf serial ls)
+unfolding hasToken tokensOf loadOf
+has-token serial history [] = refl
+has-token serial history (l ∷ ls) =
+    let same : eqb (rowOf l history .serial) serial ≡ eqb (l .particulars .serial) serial = rw (row-serial l history) in
+    by-test (eqb (l .particulars .serial) serial) (λ t. rw (same, t)) (λ f. rw (same, f) (has-token serial history ls))
+
+length-tokens : (history : List Entry) (ls : List Loaded) → length (tokensOf ls history) ≡ length ls
+unfolding tokensOf
+length-tokens history [] = refl
+length-tokens history (l ∷ ls) = ap suc (length-tokens history ls)
+
+append-tokens : (history : List Entry) (ls ms : List Loaded) → tokensOf (ls ++ ms) history ≡ tokensOf ls history ++ tokensOf ms history
+unfolding tokensOf
+append-tokens history [] ms = refl
+append-tokens history (l ∷ ls) ms = ap (λ (ts : List Token). tokenOf history l ∷ ts) (append-tokens history ls ms)
+
+module _ (p : Particulars) (key : List ℕ) (history : List Entry) where
+  abbrev loading : Entry
+  loading = record { call = DeskCall.load p key; answer = Answer.Success Call.Load Content.Plain }
+
+  new-token : Unread (p .serial) history → tokenOf (loading ∷ history) (record { particulars = p; key = key }) ≡ record { row = loadedRow p key; key = zeroFilled key }
+  unfolding rowOf keyOf reading nextOf offsetOf usedOf
+  new-token u = rw (eq-eqb (p .serial) (p .serial) refl, none-larger (nextOf (p .serial) history), u .next, u .offset, u .used)
+
+  tokens-loaded : Consistent history → loadOf (p .serial) (loads history) ≡ none
+      → tokensOf (loads history) history ++ (record { row = loadedRow p key; key = zeroFilled key } ∷ []) ≡ tokensOf (loads (loading ∷ history)) (loading ∷ history)
+  unfolding loads tokensOf
+  tokens-loaded c missing =
+      rw (
+        append-tokens (loading ∷ history) (loads history) (record { particulars = p; key = key } ∷ []),
+        apart-stay loading history (p .serial) (λ n. refl) (loads history) missing,
+        new-token (c .unread (p .serial) missing),
+      )
+
+  tokens-refused : (f : Refusal) → eqb (refusalNumber f) 0x0140 ≡ false
+      → tokensOf (loads history) history
+      ≡ tokensOf (loads (record { call = DeskCall.load p key; answer = Answer.Refused f } ∷ history)) (record { call = DeskCall.load p key; answer = Answer.Refused f } ∷ history)
+  unfolding loads
+  tokens-refused f n =
+      rw (n, append-nil (loads history)) (sym (refused-stay (record { call = DeskCall.load p key; answer = Answer.Refused f }) history refl (λ q r. rw n) (loads history)))
+
+  loaded-among : (rows : ℕ) → Consistent history
+      → loadedAmong rows p key (tokensOf (loads history) history)
+      ≡ after (DeskCall.load p key) (loadedOf rows (loads history) (loadOf (p .serial) (loads history))) history
+  loaded-among rows c =
+      rw (has-token (p .serial) history (loads history), length-tokens history (loads history)) (beside (loadOf (p .serial) (loads history)) refl)
+    where
+      beside : (o : Option Loaded) → loadOf (p .serial) (loads history) ≡ o
+          → cond (isLoaded o) (record { answer = Answer.Refused Refusal.AlreadyLoaded; tokens = tokensOf (loads history) history })
+            (cond (ltb (length (loads history)) rows)
+            (record { answer = Answer.Success Call.Load Content.Plain; tokens = tokensOf (loads history) history ++ (record { row = loadedRow p key; key = zeroFilled key } ∷ []) })
+            (record { answer = Answer.Refused Refusal.TableFull; tokens = tokensOf (loads history) history }))
+          ≡ after (DeskCall.load p key) (loadedOf rows (loads history) o) history
+      beside (some l) e = held-by (tokens-refused Refusal.AlreadyLoaded refl)
+      beside none e =
+          by-test (ltb (length (loads history)) rows)
+          (λ t. rw t (held-by (tokens-loaded c e)))
+          (λ f. rw f (held-by (tokens-refused Refusal.TableFull refl)))
+
+-- ---- a call
+
+module _ (passwords : PasswordRule) (rows : ℕ) (history : List Entry) where
+  named-loads : (request : Request) (serial clock : ℕ) (a : Answer)
+      → loads (record { call = DeskCall.named request serial clock; answer = a } ∷ history) ≡ loads history
+  unfolding loads
+  named-loads request serial clock a = append-nil (loads history)
+
+  tokens-bad : (request : Request) (serial clock : ℕ)
+      → tokensOf (loads history) (record { call = DeskCall.named request serial clock; answer = Answer.Refused Refusal.BadArgument } ∷ history) ≡ tokensOf (loads history) history
+  tokens-bad request serial clock = refused-stay _ history refl (λ p r. rw (either-way (isQuery request))) (loads history)
+    where
+      either-way : (b : Bool) → b || true ≡ true
+      either-way true = refl
+      either-way false = refl
+
+  pub history-step : (call : DeskCall) → Consistent history → AllSane (tokensOf (loads history) history)
+      → tokensAfter passwords rows call (tokensOf (loads history) history) ≡ after call (answerTo passwords rows history call) history
+  unfolding tokensAfter answerTo
+  history-step (DeskCall.load p key) c sane =
+      by-test (loadOk p key) (λ t. rw t (loaded-among p key history rows c)) (λ f. rw f (held-by (tokens-refused p key history Refusal.BadArgument refl)))
+  history-step (DeskCall.named request serial clock) c sane =
+      by-test (clockOk clock && requestOk request) 
+      (λ t. let a = requestedOf passwords history clock request (loadOf serial (loads history)) in
+      rw (t, named-loads request serial clock a) (served-among passwords history request serial clock a (loads history) (c .distinct) sane refl))
+      (λ f. rw (f, named-loads request serial clock (Answer.Refused Refusal.BadArgument)) (held-by (sym (tokens-bad request serial clock))))
