@@ -21,6 +21,7 @@ use Rattle.desk.specs.Requests.{Request, DeskCall, clockOk, requestOk, loadedRo
 use Rattle.ledger.specs.Ledger.{Entry, Loaded, Reading, names, loads, loadOf, isQuery, entered, reading, nextOf, offsetOf, usedOf, requestedOf, loadedOf, answerTo, rowOf, keyOf}
 use Rattle.ledger.specs.Tokens.{Token, Held, AllSane, servedAmong, hasToken, loadedAmong, tokensAfter}
 use Rattle.ledger.specs.Described.{tokenOf, tokensOf, Distinct, Unread, Consistent}
+use Rattle.ledger.specs.LoadsLaws.{first-differs, rest-missing, flipped, named-loads}
 use Rattle.ledger.specs.OneTokenLaws.{none-larger}
 use Rattle.ledger.specs.TokenLaws.{Unmoved, unnamed-unmoved, refused-unmoved, unnamed-stays, refused-stays, request-token}
 
@@ -28,23 +29,6 @@ use Rattle.ledger.specs.TokenLaws.{Unmoved, unnamed-unmoved, refused-unm
 abbrev pub after : DeskCall → Answer → List Entry → Held
 after call a history =
     record { answer = a; tokens = tokensOf (loads (record { call = call; answer = a } ∷ history)) (record { call = call; answer = a } ∷ history) }
-
--- ---- which loads have a serial
-
-module _ (serial : ℕ) (l : Loaded) (ls : List Loaded) (missing : loadOf serial (l ∷ ls) ≡ none) where
-  first-differs : eqb (l .particulars .serial) serial ≡ false
-  unfolding loadOf
-  first-differs =
-      by-test (eqb (l .particulars .serial) serial)
-      (λ t. let n : some l ≡ none = rw t at missing in let z : _≡_ {A = ℕ} 0 1 = cc in absurd (omega arith))
-      (λ f. f)
-
-  rest-missing : loadOf serial ls ≡ none
-  unfolding loadOf
-  rest-missing = rw first-differs at missing
-
-flipped : (a b : ℕ) → eqb a b ≡ false → eqb b a ≡ false
-flipped a b f = ne-eqb b a (λ e. eqb-false a b f (sym e))
 
 -- ---- entries that leave a list of tokens
 
@@ -165,11 +149,6 @@ module _ (p : Particulars) (key : List ℕ) (history : List Entry) where
 -- ---- a call
 
 module _ (passwords : PasswordRule) (rows : ℕ) (history : List Entry) where
-  named-loads : (request : Request) (serial clock : ℕ) (a : Answer)
-      → loads (record { call = DeskCall.named request serial clock; answer = a } ∷ history) ≡ loads history
-  unfolding loads
-  named-loads request serial clock a = append-nil (loads history)
-
   tokens-bad : (request : Request) (serial clock : ℕ)
       → tokensOf (loads history) (record { call = DeskCall.named request serial clock; answer = Answer.Refused Refusal.BadArgument } ∷ history) ≡ tokensOf (loads history) history
   tokens-bad request serial clock = refused-stay _ history refl (λ p r. rw (either-way (isQuery request))) (loads history)
@@ -186,5 +165,5 @@ module _ (passwords : PasswordRule) (rows : ℕ) (history : List Entry) where
   history-step (DeskCall.named request serial clock) c sane =
       by-test (clockOk clock && requestOk request) 
       (λ t. let a = requestedOf passwords history clock request (loadOf serial (loads history)) in
-      rw (t, named-loads request serial clock a) (served-among passwords history request serial clock a (loads history) (c .distinct) sane refl))
-      (λ f. rw (f, named-loads request serial clock (Answer.Refused Refusal.BadArgument)) (held-by (sym (tokens-bad request serial clock))))
+      rw (t, named-loads request serial clock a history) (served-among passwords history request serial clock a (loads history) (c .distinct) sane refl))
+      (λ f. rw (f, named-loads request serial clock (Answer.Refused Refusal.BadArgument) history) (held-by (sym (tokens-bad request serial clock))))

@@ -1,9 +1,11 @@
 -- The ledger machine (a term of document 01), and the buyer's third demand.
+pub mod ConsistentLaws
 pub mod Described
 pub mod Entering
 pub mod Fresh
 pub mod HistoryLaws
 pub mod Ledger
+pub mod LoadsLaws
 pub mod OneTokenLaws
 pub mod Promise
 pub mod RequestLaws

@@ -1,0 +1,74 @@
+-- Every history that the ledger machine makes is consistent.
+use Prim.Native.Nat.{ℕ}
+use mathlib.Core.Path.{_≡_, refl, sym, ap, _∙_}
+use mathlib.Core.Bool.{Bool, true, false, _&&_, cond}
+use mathlib.Core.List.{List, [], _∷_, _++_, append-nil}
+use mathlib.Core.Option.{Option, none, some}
+use borrow.Author.Tests.{eqb-true}
+use lib.Dec.{eqb, ltb}
+use lib.ListN.{length}
+use Rattle.words.specs.ListsLaws.{by-test}
+use Rattle.window.specs.PasswordAt.{PasswordRule}
+use Rattle.token.specs.declared.calls.Call.{Call}
+use Rattle.token.specs.declared.answers.Content.{Content}
+use Rattle.token.specs.declared.answers.Refusal.{Refusal}
+use Rattle.token.specs.declared.answers.Answer.{Answer}
+use Rattle.token.specs.Codes.{refusalNumber}
+use Rattle.desk.specs.declared.particulars.Particulars.{Particulars}
+use Rattle.desk.specs.Requests.{Request, DeskCall, clockOk, requestOk, loadOk}
+use Rattle.ledger.specs.Ledger.{Entry, Loaded, loads, loadOf, nextOf, offsetOf, usedOf, requestedOf, loadedOf, answerTo}
+use Rattle.ledger.specs.Described.{Unread, Consistent}
+use Rattle.ledger.specs.LoadsLaws.{missing-before, distinct-behind, named-loads}
+use Rattle.ledger.specs.TokenLaws.{Unmoved, unnamed-unmoved, refused-unmoved}
+
+pub start-consistent : Consistent []
+unfolding loads nextOf offsetOf usedOf
+start-consistent = record { distinct = tt; unread = λ serial m. record { next = refl; offset = refl; used = refl } }
+
+still-unread : {serial : ℕ} {e : Entry} {history : List Entry} → Unmoved serial e history → Unread serial history → Unread serial (e ∷ history)
+still-unread u r = record { next = u .next ∙ r .next; offset = u .offset ∙ r .offset; used = u .used ∙ r .used }
+
+module _ (history : List Entry) (c : Consistent history) where
+  -- an entry without a load
+  unloading-consistent : (e : Entry) → loads (e ∷ history) ≡ loads history → ((serial : ℕ) → loadOf serial (loads history) ≡ none → Unmoved serial e history) → Consistent (e ∷ history)
+  unloading-consistent e same unmoved =
+      record { distinct = rw same (c .distinct); unread = λ serial m. let n = rw same at m in still-unread (unmoved serial n) (c .unread serial n) }
+
+  module _ (p : Particulars) (key : List ℕ) where
+    refused-consistent : (f : Refusal) → eqb (refusalNumber f) 0x0140 ≡ false → Consistent (record { call = DeskCall.load p key; answer = Answer.Refused f } ∷ history)
+    unfolding loads
+    refused-consistent f n = unloading-consistent _ (rw (n, append-nil (loads history))) (λ serial m. refused-unmoved serial _ history refl)
+
+    loaded-consistent : loadOf (p .serial) (loads history) ≡ none → Consistent (record { call = DeskCall.load p key; answer = Answer.Success Call.Load Content.Plain } ∷ history)
+    unfolding loads
+    loaded-consistent missing =
+        record {
+          distinct = distinct-behind (record { particulars = p; key = key }) (loads history) (c .distinct) missing;
+          unread = λ serial m. let before = missing-before (record { particulars = p; key = key }) serial (loads history) m in
+          still-unread (unnamed-unmoved serial _ history (before .1)) (c .unread serial (before .0));
+        }
+
+    load-consistent : (rows : ℕ) → Consistent (record { call = DeskCall.load p key; answer = loadedOf rows (loads history) (loadOf (p .serial) (loads history)) } ∷ history)
+    load-consistent rows = beside (loadOf (p .serial) (loads history)) refl
+      where
+        beside : (o : Option Loaded) → loadOf (p .serial) (loads history) ≡ o → Consistent (record { call = DeskCall.load p key; answer = loadedOf rows (loads history) o } ∷ history)
+        beside (some l) e = refused-consistent Refusal.AlreadyLoaded refl
+        beside none e =
+            by-test (ltb (length (loads history)) rows) (λ t. rw t (loaded-consistent e)) (λ f. rw f (refused-consistent Refusal.TableFull refl))
+
+  named-consistent : (request : Request) (serial clock : ℕ) (a : Answer) → (loadOf serial (loads history) ≡ none → Unmoved serial (record { call = DeskCall.named request serial clock; answer = a }) history)
+      → Consistent (record { call = DeskCall.named request serial clock; answer = a } ∷ history)
+  named-consistent request serial clock a unknown =
+      unloading-consistent _ (named-loads request serial clock a history)
+      (λ n m. by-test (eqb serial n) (λ t. let e = eqb-true serial n t in rw (← e) (unknown (rw e m))) (λ f. unnamed-unmoved n _ history f))
+
+pub consistent-step : (passwords : PasswordRule) (rows : ℕ) (history : List Entry) (call : DeskCall) → Consistent history
+    → Consistent (record { call = call; answer = answerTo passwords rows history call } ∷ history)
+unfolding answerTo
+consistent-step passwords rows history (DeskCall.load p key) c =
+    by-test (loadOk p key) (λ t. rw t (load-consistent history c p key rows)) (λ f. rw f (refused-consistent history c p key Refusal.BadArgument refl))
+consistent-step passwords rows history (DeskCall.named request serial clock) c =
+    by-test (clockOk clock && requestOk request)
+    (λ t. rw t (named-consistent history c request serial clock (requestedOf passwords history clock request (loadOf serial (loads history)))
+    (λ missing. refused-unmoved serial _ history (ap (requestedOf passwords history clock request) missing))))
+    (λ f. rw f (named-consistent history c request serial clock (Answer.Refused Refusal.BadArgument) (λ missing. refused-unmoved serial _ history refl)))

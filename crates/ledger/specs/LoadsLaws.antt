@@ -1,0 +1,56 @@
+-- The loads of a history: which of them have a serial, and what an entry adds to them.
+use Prim.Native.Nat.{ℕ}
+use mathlib.Core.Path.{_≡_, refl, sym, ap, _∙_}
+use mathlib.Core.Bool.{Bool, true, false, cond}
+use mathlib.Core.List.{List, [], _∷_, _++_, append-nil}
+use mathlib.Core.Option.{Option, none, some}
+use native.Mathlib.Omega.{arith}
+use borrow.Author.Tests.{eqb-false, ne-eqb}
+use lib.Dec.{eqb}
+use Rattle.words.specs.ListsLaws.{by-test}
+use Rattle.token.specs.declared.answers.Answer.{Answer}
+use Rattle.desk.specs.Requests.{Request, DeskCall}
+use Rattle.ledger.specs.Ledger.{Entry, Loaded, loads, loadOf}
+use Rattle.ledger.specs.Described.{Distinct}
+
+pub flipped : (a b : ℕ) → eqb a b ≡ false → eqb b a ≡ false
+flipped a b f = ne-eqb b a (λ e. eqb-false a b f (sym e))
+
+module _ (serial : ℕ) (l : Loaded) (ls : List Loaded) (missing : loadOf serial (l ∷ ls) ≡ none) where
+  pub first-differs : eqb (l .particulars .serial) serial ≡ false
+  unfolding loadOf
+  first-differs =
+      by-test (eqb (l .particulars .serial) serial)
+      (λ t. let n : some l ≡ none = rw t at missing in let z : _≡_ {A = ℕ} 0 1 = cc in absurd (omega arith))
+      (λ f. f)
+
+  pub rest-missing : loadOf serial ls ≡ none
+  unfolding loadOf
+  rest-missing = rw first-differs at missing
+
+-- one more load at the end
+
+module _ (l : Loaded) where
+  pub missing-before : (serial : ℕ) (ls : List Loaded) → loadOf serial (ls ++ (l ∷ [])) ≡ none → (loadOf serial ls ≡ none) × (eqb (l .particulars .serial) serial ≡ false)
+  unfolding loadOf
+  missing-before serial [] m = (refl, first-differs serial l [] m)
+  missing-before serial (k ∷ ls) m =
+      let before = missing-before serial ls (rest-missing serial k (ls ++ (l ∷ [])) m) in
+      (rw (first-differs serial k (ls ++ (l ∷ [])) m) (before .0), before .1)
+
+  missing-behind : (serial : ℕ) (ls : List Loaded) → loadOf serial ls ≡ none → eqb (l .particulars .serial) serial ≡ false → loadOf serial (ls ++ (l ∷ [])) ≡ none
+  unfolding loadOf
+  missing-behind serial [] m f = rw f
+  missing-behind serial (k ∷ ls) m f = rw (first-differs serial k ls m) (missing-behind serial ls (rest-missing serial k ls m) f)
+
+  pub distinct-behind : (ls : List Loaded) → Distinct ls → loadOf (l .particulars .serial) ls ≡ none → Distinct (ls ++ (l ∷ []))
+  unfolding loadOf
+  distinct-behind [] apart m = (refl, tt)
+  distinct-behind (k ∷ ls) apart m =
+      let differs = flipped (k .particulars .serial) (l .particulars .serial) (first-differs (l .particulars .serial) k ls m) in
+      (missing-behind (k .particulars .serial) ls (apart .0) differs, distinct-behind ls (apart .1) (rest-missing (l .particulars .serial) k ls m))
+
+pub named-loads : (request : Request) (serial clock : ℕ) (a : Answer) (history : List Entry)
+    → loads (record { call = DeskCall.named request serial clock; answer = a } ∷ history) ≡ loads history
+unfolding loads
+named-loads request serial clock a history = append-nil (loads history)
