@@ -1,4 +1,5 @@
 -- The ledger machine (a term of document 01), and the buyer's third demand.
+pub mod AnswerLaws
 pub mod ConsistentLaws
 pub mod Described
 pub mod Entering
