@@ -27,7 +27,7 @@ StepFrom next (Answer.Success call Content.Plain) = Unit {0}
 StepFrom next (Answer.Success call (Content.Told status)) = Unit {0}
 StepFrom next (Answer.Refused refusal) = Unit {0}
 
-either : {A : Type 0} (P : A → Type 0) (b : Bool) {x y : A} → P x → P y → P (cond b x y)
+pub either : {A : Type 0} (P : A → Type 0) (b : Bool) {x y : A} → P x → P y → P (cond b x y)
 either P true p q = p
 either P false p q = q
 

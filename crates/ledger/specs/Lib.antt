@@ -10,5 +10,6 @@ pub mod LoadsLaws
 pub mod OneTokenLaws
 pub mod Promise
 pub mod RequestLaws
+pub mod StepsLaws
 pub mod TokenLaws
 pub mod Tokens

@@ -5,7 +5,7 @@ use mathlib.Core.Bool.{Bool, true, false, cond}
 use mathlib.Core.List.{List, [], _∷_, _++_, append-nil}
 use mathlib.Core.Option.{Option, none, some}
 use native.Mathlib.Omega.{arith}
-use borrow.Author.Tests.{eqb-false, ne-eqb}
+use borrow.Author.Tests.{eqb-true, eqb-false, ne-eqb}
 use lib.Dec.{eqb}
 use Rattle.words.specs.ListsLaws.{by-test}
 use Rattle.token.specs.declared.answers.Answer.{Answer}
@@ -28,7 +28,24 @@ module _ (serial : ℕ) (l : Loaded) (ls : List Loaded) (missing : loadOf serial
   unfolding loadOf
   rest-missing = rw first-differs at missing
 
--- one more load at the end
+module _ (serial : ℕ) (l : Loaded) where
+  pub found-serial : (ls : List Loaded) → loadOf serial ls ≡ some l → l .particulars .serial ≡ serial
+  unfolding loadOf
+  found-serial [] e = let z : _≡_ {A = ℕ} 0 1 = cc in absurd (omega arith)
+  found-serial (k ∷ ls) e =
+      by-test (eqb (k .particulars .serial) serial)
+      (λ t. let same : some k ≡ some l = rw t at e in let s = eqb-true (k .particulars .serial) serial t in cc)
+      (λ f. found-serial ls (rw f at e))
+
+  pub found-behind : (ls ms : List Loaded) → loadOf serial ls ≡ some l → loadOf serial (ls ++ ms) ≡ some l
+  unfolding loadOf
+  found-behind [] ms e = let z : _≡_ {A = ℕ} 0 1 = cc in absurd (omega arith)
+  found-behind (k ∷ ls) ms e =
+      by-test (eqb (k .particulars .serial) serial)
+      (λ t. rw t (rw t at e))
+      (λ f. rw f (found-behind ls ms (rw f at e)))
+
+-- ---- one more load at the end
 
 module _ (l : Loaded) where
   pub missing-before : (serial : ℕ) (ls : List Loaded) → loadOf serial (ls ++ (l ∷ [])) ≡ none → (loadOf serial ls ≡ none) × (eqb (l .particulars .serial) serial ≡ false)
