@@ -13,3 +13,4 @@ pub mod RequestLaws
 pub mod StepsLaws
 pub mod TokenLaws
 pub mod Tokens
+pub mod VoidLaws
