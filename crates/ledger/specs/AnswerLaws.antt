@@ -7,6 +7,7 @@ use native.Mathlib.Omega.{arith}
 use lib.Dec.{eqb, leb}
 use Rattle.window.specs.declared.Size.{Size}
 use Rattle.window.specs.declared.Size.the-variants.{Small, Medium, Large}
+use Rattle.window.specs.CheckLaws.{clash}
 use Rattle.window.specs.declared.Track.{Track}
 use Rattle.window.specs.declared.Outcome.{Outcome}
 use Rattle.window.specs.PasswordAt.{PasswordRule, hasBy}
@@ -18,7 +19,7 @@ use Rattle.token.specs.declared.answers.Answer.{Answer}
 use Rattle.token.specs.Codes.{successNumber, refusalNumber, numberOf}
 use Rattle.desk.specs.Requests.{Request, DeskCall}
 use Rattle.ledger.specs.Ledger.{Loaded, Reading, oneOf, entered, needing, judgedBy, unexpired, requested}
-use Rattle.ledger.specs.Fresh.{FreshIfAccepted, single-fresh, pair-fresh}
+use Rattle.ledger.specs.FreshLaws.{FreshIfAccepted, single-fresh, pair-fresh}
 
 -- the step of a checked success is at or after `next`
 abbrev pub StepFrom : ℕ → Answer → Type 0
@@ -39,7 +40,7 @@ module _ (l : Loaded) (next serial clock : ℕ) (request : Request) where
 
   -- an answer with another number
   other-fits : {a : Answer} → StepFrom next a → eqb (numberOf a) 0x010a ≡ false → Fits a
-  other-fits s n = record { fresh = s; voids = λ t. let z : true ≡ false = cc in let w : _≡_ {A = ℕ} 0 1 = cc in absurd (omega arith) }
+  other-fits s n = record { fresh = s; voids = λ t x. clash t n }
 
   refusal-fits : (f : Refusal) → eqb (refusalNumber f) 0x010a ≡ false → Fits (Answer.Refused f)
   refusal-fits f n = other-fits tt n

@@ -17,7 +17,7 @@ use Rattle.token.specs.Codes.{refusalNumber}
 use Rattle.desk.specs.declared.particulars.Particulars.{Particulars}
 use Rattle.desk.specs.Requests.{Request, DeskCall, clockOk, requestOk, loadOk}
 use Rattle.ledger.specs.Ledger.{Entry, Loaded, loads, loadOf, nextOf, offsetOf, usedOf, requestedOf, loadedOf, answerTo}
-use Rattle.ledger.specs.Described.{Unread, Consistent}
+use Rattle.ledger.specs.Described.{withEntry, Unread, Consistent}
 use Rattle.ledger.specs.LoadsLaws.{missing-before, distinct-behind, named-loads}
 use Rattle.ledger.specs.TokenLaws.{Unmoved, unnamed-unmoved, refused-unmoved}
 
@@ -35,11 +35,11 @@ module _ (history : List Entry) (c : Consistent history) where
       record { distinct = rw same (c .distinct); unread = λ serial m. let n = rw same at m in still-unread (unmoved serial n) (c .unread serial n) }
 
   module _ (p : Particulars) (key : List ℕ) where
-    refused-consistent : (f : Refusal) → eqb (refusalNumber f) 0x0140 ≡ false → Consistent (record { call = DeskCall.load p key; answer = Answer.Refused f } ∷ history)
+    refused-consistent : (f : Refusal) → eqb (refusalNumber f) 0x0140 ≡ false → Consistent (withEntry (DeskCall.load p key) (Answer.Refused f) history)
     unfolding loads
     refused-consistent f n = unloading-consistent _ (rw (n, append-nil (loads history))) (λ serial m. refused-unmoved serial _ history refl)
 
-    loaded-consistent : loadOf (p .serial) (loads history) ≡ none → Consistent (record { call = DeskCall.load p key; answer = Answer.Success Call.Load Content.Plain } ∷ history)
+    loaded-consistent : loadOf (p .serial) (loads history) ≡ none → Consistent (withEntry (DeskCall.load p key) (Answer.Success Call.Load Content.Plain) history)
     unfolding loads
     loaded-consistent missing =
         record {
@@ -48,22 +48,22 @@ module _ (history : List Entry) (c : Consistent history) where
           still-unread (unnamed-unmoved serial _ history (before .1)) (c .unread serial (before .0));
         }
 
-    load-consistent : (rows : ℕ) → Consistent (record { call = DeskCall.load p key; answer = loadedOf rows (loads history) (loadOf (p .serial) (loads history)) } ∷ history)
+    load-consistent : (rows : ℕ) → Consistent (withEntry (DeskCall.load p key) (loadedOf rows (loads history) (loadOf (p .serial) (loads history))) history)
     load-consistent rows = beside (loadOf (p .serial) (loads history)) refl
       where
-        beside : (o : Option Loaded) → loadOf (p .serial) (loads history) ≡ o → Consistent (record { call = DeskCall.load p key; answer = loadedOf rows (loads history) o } ∷ history)
+        beside : (o : Option Loaded) → loadOf (p .serial) (loads history) ≡ o → Consistent (withEntry (DeskCall.load p key) (loadedOf rows (loads history) o) history)
         beside (some l) e = refused-consistent Refusal.AlreadyLoaded refl
         beside none e =
             by-test (ltb (length (loads history)) rows) (λ t. rw t (loaded-consistent e)) (λ f. rw f (refused-consistent Refusal.TableFull refl))
 
   named-consistent : (request : Request) (serial clock : ℕ) (a : Answer) → (loadOf serial (loads history) ≡ none → Unmoved serial (record { call = DeskCall.named request serial clock; answer = a }) history)
-      → Consistent (record { call = DeskCall.named request serial clock; answer = a } ∷ history)
+      → Consistent (withEntry (DeskCall.named request serial clock) a history)
   named-consistent request serial clock a unknown =
       unloading-consistent _ (named-loads request serial clock a history)
       (λ n m. by-test (eqb serial n) (λ t. let e = eqb-true serial n t in rw (← e) (unknown (rw e m))) (λ f. unnamed-unmoved n _ history f))
 
 pub consistent-step : (passwords : PasswordRule) (rows : ℕ) (history : List Entry) (call : DeskCall) → Consistent history
-    → Consistent (record { call = call; answer = answerTo passwords rows history call } ∷ history)
+    → Consistent (withEntry call (answerTo passwords rows history call) history)
 unfolding answerTo
 consistent-step passwords rows history (DeskCall.load p key) c =
     by-test (loadOk p key) (λ t. rw t (load-consistent history c p key rows)) (λ f. rw f (refused-consistent history c p key Refusal.BadArgument refl))

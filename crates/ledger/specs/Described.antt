@@ -3,10 +3,15 @@ use Prim.Native.Nat.{ℕ}
 use mathlib.Core.Path.{_≡_}
 use mathlib.Core.List.{List, [], _∷_}
 use mathlib.Core.Option.{none}
-use Rattle.window.specs.declared.Offset.{Offset}
 use Rattle.window.specs.Window.{farthest}
+use Rattle.token.specs.declared.answers.Answer.{Answer}
+use Rattle.desk.specs.Requests.{DeskCall}
 use Rattle.ledger.specs.Ledger.{Entry, Loaded, loads, loadOf, nextOf, offsetOf, usedOf, rowOf, keyOf}
-use Rattle.ledger.specs.Tokens.{Token}
+use Rattle.ledger.specs.Tokens.{Token, Held}
+
+-- a history with one more call and its answer
+abbrev pub withEntry : DeskCall → Answer → List Entry → List Entry
+withEntry call answer history = record { call = call; answer = answer } ∷ history
 
 abbrev pub tokenOf : List Entry → Loaded → Token
 tokenOf history l = record { row = rowOf l history; key = keyOf l history }
@@ -14,6 +19,10 @@ tokenOf history l = record { row = rowOf l history; key = keyOf l history }
 unfoldable pub tokensOf : List Loaded → List Entry → List Token
 tokensOf [] history = []
 tokensOf (l ∷ ls) history = tokenOf history l ∷ tokensOf ls history
+
+-- an answer, and the tokens of the history with the call and that answer
+abbrev pub heldAfter : DeskCall → Answer → List Entry → Held
+heldAfter call answer history = record { answer = answer; tokens = tokensOf (loads (withEntry call answer history)) (withEntry call answer history) }
 
 -- no two of the loads have a serial in common
 abbrev pub Distinct : List Loaded → Type 0

@@ -20,15 +20,10 @@ use Rattle.desk.specs.declared.particulars.Particulars.{Particulars}
 use Rattle.desk.specs.Requests.{Request, DeskCall, clockOk, requestOk, loadedRow, loadOk}
 use Rattle.ledger.specs.Ledger.{Entry, Loaded, Reading, names, loads, loadOf, isQuery, entered, reading, nextOf, offsetOf, usedOf, requestedOf, loadedOf, answerTo, rowOf, keyOf}
 use Rattle.ledger.specs.Tokens.{Token, Held, AllSane, servedAmong, hasToken, loadedAmong, tokensAfter}
-use Rattle.ledger.specs.Described.{tokenOf, tokensOf, Distinct, Unread, Consistent}
+use Rattle.ledger.specs.Described.{withEntry, tokenOf, tokensOf, heldAfter, Distinct, Unread, Consistent}
 use Rattle.ledger.specs.LoadsLaws.{first-differs, rest-missing, flipped, named-loads}
 use Rattle.ledger.specs.OneTokenLaws.{none-larger}
-use Rattle.ledger.specs.TokenLaws.{Unmoved, unnamed-unmoved, refused-unmoved, unnamed-stays, refused-stays, request-token}
-
--- an answer, and the tokens of a history with the call and the answer entered
-abbrev pub after : DeskCall → Answer → List Entry → Held
-after call a history =
-    record { answer = a; tokens = tokensOf (loads (record { call = call; answer = a } ∷ history)) (record { call = call; answer = a } ∷ history) }
+use Rattle.ledger.specs.TokenLaws.{Unmoved, unnamed-unmoved, refused-unmoved, unnamed-stays, refused-stays, bad-argument-enters, request-token}
 
 -- ---- entries that leave a list of tokens
 
@@ -61,11 +56,8 @@ held-equal : {a b : Answer} {t u : Token} {ts us : List Token} → a ≡ b → t
 held-equal p q r = cc
 
 module _ (passwords : PasswordRule) (history : List Entry) (request : Request) (serial clock : ℕ) (a : Answer) where
-  abbrev longer : List Entry
-  longer = record { call = DeskCall.named request serial clock; answer = a } ∷ history
-
   served-among : (ls : List Loaded) → Distinct ls → AllSane (tokensOf ls history) → a ≡ requestedOf passwords history clock request (loadOf serial ls)
-      → servedAmong passwords request serial clock (tokensOf ls history) ≡ record { answer = a; tokens = tokensOf ls longer }
+      → servedAmong passwords request serial clock (tokensOf ls history) ≡ record { answer = a; tokens = tokensOf ls (withEntry (DeskCall.named request serial clock) a history) }
   unfolding servedAmong tokensOf loadOf
   served-among [] apart sane q = rw q
   served-among (l ∷ ls) apart sane q =
@@ -123,14 +115,14 @@ module _ (p : Particulars) (key : List ℕ) (history : List Entry) where
 
   tokens-refused : (f : Refusal) → eqb (refusalNumber f) 0x0140 ≡ false
       → tokensOf (loads history) history
-      ≡ tokensOf (loads (record { call = DeskCall.load p key; answer = Answer.Refused f } ∷ history)) (record { call = DeskCall.load p key; answer = Answer.Refused f } ∷ history)
+      ≡ tokensOf (loads (withEntry (DeskCall.load p key) (Answer.Refused f) history)) (withEntry (DeskCall.load p key) (Answer.Refused f) history)
   unfolding loads
   tokens-refused f n =
       rw (n, append-nil (loads history)) (sym (refused-stay (record { call = DeskCall.load p key; answer = Answer.Refused f }) history refl (λ q r. rw n) (loads history)))
 
   loaded-among : (rows : ℕ) → Consistent history
       → loadedAmong rows p key (tokensOf (loads history) history)
-      ≡ after (DeskCall.load p key) (loadedOf rows (loads history) (loadOf (p .serial) (loads history))) history
+      ≡ heldAfter (DeskCall.load p key) (loadedOf rows (loads history) (loadOf (p .serial) (loads history))) history
   loaded-among rows c =
       rw (has-token (p .serial) history (loads history), length-tokens history (loads history)) (beside (loadOf (p .serial) (loads history)) refl)
     where
@@ -139,7 +131,7 @@ module _ (p : Particulars) (key : List ℕ) (history : List Entry) where
             (cond (ltb (length (loads history)) rows)
             (record { answer = Answer.Success Call.Load Content.Plain; tokens = tokensOf (loads history) history ++ (record { row = loadedRow p key; key = zeroFilled key } ∷ []) })
             (record { answer = Answer.Refused Refusal.TableFull; tokens = tokensOf (loads history) history }))
-          ≡ after (DeskCall.load p key) (loadedOf rows (loads history) o) history
+          ≡ heldAfter (DeskCall.load p key) (loadedOf rows (loads history) o) history
       beside (some l) e = held-by (tokens-refused Refusal.AlreadyLoaded refl)
       beside none e =
           by-test (ltb (length (loads history)) rows)
@@ -149,16 +141,8 @@ module _ (p : Particulars) (key : List ℕ) (history : List Entry) where
 -- ---- a call
 
 module _ (passwords : PasswordRule) (rows : ℕ) (history : List Entry) where
-  tokens-bad : (request : Request) (serial clock : ℕ)
-      → tokensOf (loads history) (record { call = DeskCall.named request serial clock; answer = Answer.Refused Refusal.BadArgument } ∷ history) ≡ tokensOf (loads history) history
-  tokens-bad request serial clock = refused-stay _ history refl (λ p r. rw (either-way (isQuery request))) (loads history)
-    where
-      either-way : (b : Bool) → b || true ≡ true
-      either-way true = refl
-      either-way false = refl
-
   pub history-step : (call : DeskCall) → Consistent history → AllSane (tokensOf (loads history) history)
-      → tokensAfter passwords rows call (tokensOf (loads history) history) ≡ after call (answerTo passwords rows history call) history
+      → tokensAfter passwords rows call (tokensOf (loads history) history) ≡ heldAfter call (answerTo passwords rows history call) history
   unfolding tokensAfter answerTo
   history-step (DeskCall.load p key) c sane =
       by-test (loadOk p key) (λ t. rw t (loaded-among p key history rows c)) (λ f. rw f (held-by (tokens-refused p key history Refusal.BadArgument refl)))
@@ -166,4 +150,4 @@ module _ (passwords : PasswordRule) (rows : ℕ) (history : List Entry) where
       by-test (clockOk clock && requestOk request) 
       (λ t. let a = requestedOf passwords history clock request (loadOf serial (loads history)) in
       rw (t, named-loads request serial clock a history) (served-among passwords history request serial clock a (loads history) (c .distinct) sane refl))
-      (λ f. rw (f, named-loads request serial clock (Answer.Refused Refusal.BadArgument) history) (held-by (sym (tokens-bad request serial clock))))
+      (λ f. rw (f, named-loads request serial clock (Answer.Refused Refusal.BadArgument) history) (held-by (sym (refused-stay _ history refl (bad-argument-enters request serial clock) (loads history)))))

@@ -3,7 +3,7 @@ pub mod AnswerLaws
 pub mod ConsistentLaws
 pub mod Described
 pub mod Entering
-pub mod Fresh
+pub mod FreshLaws
 pub mod HistoryLaws
 pub mod Ledger
 pub mod LoadsLaws

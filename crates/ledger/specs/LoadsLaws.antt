@@ -11,7 +11,7 @@ use Rattle.words.specs.ListsLaws.{by-test}
 use Rattle.token.specs.declared.answers.Answer.{Answer}
 use Rattle.desk.specs.Requests.{Request, DeskCall}
 use Rattle.ledger.specs.Ledger.{Entry, Loaded, loads, loadOf}
-use Rattle.ledger.specs.Described.{Distinct}
+use Rattle.ledger.specs.Described.{withEntry, Distinct}
 
 pub flipped : (a b : ℕ) → eqb a b ≡ false → eqb b a ≡ false
 flipped a b f = ne-eqb b a (λ e. eqb-false a b f (sym e))
@@ -68,6 +68,6 @@ module _ (l : Loaded) where
       (missing-behind (k .particulars .serial) ls (apart .0) differs, distinct-behind ls (apart .1) (rest-missing (l .particulars .serial) k ls m))
 
 pub named-loads : (request : Request) (serial clock : ℕ) (a : Answer) (history : List Entry)
-    → loads (record { call = DeskCall.named request serial clock; answer = a } ∷ history) ≡ loads history
+    → loads (withEntry (DeskCall.named request serial clock) a history) ≡ loads history
 unfolding loads
 named-loads request serial clock a history = append-nil (loads history)

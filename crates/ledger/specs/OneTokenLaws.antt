@@ -26,7 +26,7 @@ use Rattle.token.specs.States.{waitOver, waited, moved, accepted, failed}
 use Rattle.token.specs.Serving.{refusing, judging, timely}
 use Rattle.desk.specs.Requests.{Request}
 use Rattle.ledger.specs.Ledger.{Loaded, Reading, oneOf, runOut, follows, isLogin, isQuery, needing, judgedBy, unexpired}
-use Rattle.ledger.specs.Fresh.{FreshIfAccepted}
+use Rattle.ledger.specs.FreshLaws.{FreshIfAccepted}
 use Rattle.ledger.specs.Entering.{rowWith, Agrees}
 
 -- ---- a request and the call that it makes

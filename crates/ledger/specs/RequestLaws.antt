@@ -24,7 +24,7 @@ use Rattle.token.specs.Serving.{serving, served, querying}
 use Rattle.desk.specs.Requests.{Request}
 use Rattle.ledger.specs.Ledger.{Loaded, Reading, runOut, needing, judgedBy, unexpired, requested}
 use Rattle.ledger.specs.Tokens.{Token, requestedToken}
-use Rattle.ledger.specs.Fresh.{single-fresh, pair-fresh}
+use Rattle.ledger.specs.FreshLaws.{single-fresh, pair-fresh}
 use Rattle.ledger.specs.Entering.{rowWith, Agrees}
 use Rattle.ledger.specs.OneTokenLaws.{Makes, alive, errs, waited-reads, none-larger, needing-agrees, plain-agrees, check-agrees}
 
@@ -79,10 +79,10 @@ module _ (passwords : PasswordRule) (l : Loaded) (x y : Reading) (next : ℕ) (d
         (pairCheck track clock (cond b Medium Large) (has [] presented) (has [] following)))))
   synced choice presented following true =
       pair (Request.sync choice presented following) Call.SyncMedium (2 ∷ 3 ∷ 4 ∷ [])
-      (record { asked = refl; numbered = refl; leaves = λ s. refl; locks = refl; states = refl }) [] presented following refl refl Medium refl
+      (search refl) [] presented following refl refl Medium refl
   synced choice presented following false =
       pair (Request.sync choice presented following) Call.SyncLarge (2 ∷ 3 ∷ 4 ∷ [])
-      (record { asked = refl; numbered = refl; leaves = λ s. refl; locks = refl; states = refl }) [] presented following refl refl Large refl
+      (search refl) [] presented following refl refl Large refl
 
   query-agrees : eqb (x .state) 6 ≡ eqb (y .state) 6
       → Agrees l x y next d used clock Request.query (record { answer = querying (rowWith l x next d used) clock; row = rowWith l x next d used })
@@ -96,33 +96,33 @@ module _ (passwords : PasswordRule) (l : Loaded) (x y : Reading) (next : ℕ) (d
   request-agrees zeros cut e (Request.login presented) =
       rw cut
       (single (Request.login presented) Call.Login (2 ∷ [])
-      (record { asked = refl; numbered = refl; leaves = λ s. refl; locks = refl; states = refl }) [] presented [] refl refl Small refl)
+      (search refl) [] presented [] refl refl Small refl)
   request-agrees zeros cut e (Request.challengeLogin challenge presented) =
       rw cut
       (single (Request.challengeLogin challenge presented) Call.ChallengeLogin (2 ∷ [])
-      (record { asked = refl; numbered = refl; leaves = λ s. refl; locks = refl; states = refl }) challenge presented [] refl refl Small refl)
+      (search refl) challenge presented [] refl refl Small refl)
   request-agrees zeros cut e (Request.activate presented following) =
       rw cut
       (pair (Request.activate presented following) Call.Activate (1 ∷ [])
-      (record { asked = refl; numbered = refl; leaves = λ s. refl; locks = refl; states = refl }) [] presented following refl refl Large refl)
+      (search refl) [] presented following refl refl Large refl)
   request-agrees zeros cut e Request.lock =
       rw cut
-      (unchecked Request.lock Call.Lock (2 ∷ []) (record { asked = refl; numbered = refl; leaves = λ s. refl; locks = refl; states = refl }) [] [] [] refl)
+      (unchecked Request.lock Call.Lock (2 ∷ []) (search refl) [] [] [] refl)
   request-agrees zeros cut e (Request.unlock presented) =
       rw cut
       (single (Request.unlock presented) Call.Unlock (3 ∷ 4 ∷ [])
-      (record { asked = refl; numbered = refl; leaves = λ s. refl; locks = refl; states = refl }) [] presented [] refl refl Small refl)
+      (search refl) [] presented [] refl refl Small refl)
   request-agrees zeros cut e Request.suspend =
       rw cut
       (unchecked Request.suspend Call.Suspend (2 ∷ 3 ∷ 4 ∷ [])
-      (record { asked = refl; numbered = refl; leaves = λ s. refl; locks = refl; states = refl }) [] [] [] refl)
+      (search refl) [] [] [] refl)
   request-agrees zeros cut e (Request.resume presented) =
       rw cut
       (single (Request.resume presented) Call.Resume (5 ∷ [])
-      (record { asked = refl; numbered = refl; leaves = λ s. refl; locks = refl; states = refl }) [] presented [] refl refl Small refl)
+      (search refl) [] presented [] refl refl Small refl)
   request-agrees zeros cut e (Request.sync choice presented following) = rw cut (synced choice presented following (eqb choice 1))
   request-agrees zeros cut e Request.void =
       rw cut
       (unchecked Request.void Call.Void (1 ∷ 2 ∷ 3 ∷ 4 ∷ 5 ∷ [])
-      (record { asked = refl; numbered = refl; leaves = λ s. refl; locks = refl; states = refl }) [] [] [] refl)
+      (search refl) [] [] [] refl)
   request-agrees zeros cut e Request.query = query-agrees e

@@ -20,9 +20,9 @@ use Rattle.token.specs.declared.serving.Served.{Served}
 use Rattle.token.specs.OnTable.{wipes}
 use Rattle.desk.specs.declared.particulars.Particulars.{Particulars}
 use Rattle.desk.specs.Requests.{Request, DeskCall}
-use Rattle.ledger.specs.Ledger.{Entry, Loaded, Reading, names, nextOf, offsetOf, usedOf, pastStep, atChecked, runOut, entered, reading, trackOf, requested, rowOf, keyOf}
+use Rattle.ledger.specs.Ledger.{Entry, Loaded, Reading, names, nextOf, offsetOf, usedOf, pastStep, atChecked, runOut, isQuery, entered, reading, trackOf, requested, rowOf, keyOf}
 use Rattle.ledger.specs.Tokens.{Token, Sane, kept, requestedToken}
-use Rattle.ledger.specs.Described.{tokenOf}
+use Rattle.ledger.specs.Described.{withEntry, tokenOf}
 use Rattle.ledger.specs.Entering.{rowWith, readingAfter, Agrees}
 use Rattle.ledger.specs.OneTokenLaws.{none-larger}
 use Rattle.ledger.specs.RequestLaws.{request-agrees}
@@ -89,15 +89,19 @@ module _ (e : Entry) (history : List Entry) (l : Loaded) where
       token-stays (refused-unmoved (l .particulars .serial) e history a)
       (rw (a, still) (same-either (names (e .call) (l .particulars .serial)) (reading (l .particulars) history)))
 
+pub bad-argument-enters : (request : Request) (serial clock : ℕ) (p : Particulars) (r : Reading)
+    → entered p (DeskCall.named request serial clock) (Answer.Refused Refusal.BadArgument) r ≡ r
+bad-argument-enters request serial clock p r = by-test (isQuery request) (λ t. rw t) (λ f. rw f)
+
 -- ---- an entry that names the token
 
 module _ (l : Loaded) (history : List Entry) (request : Request) (serial clock : ℕ) (a : Answer) (named : serial ≡ l .particulars .serial) where
-  reading-entered : reading (l .particulars) (record { call = DeskCall.named request serial clock; answer = a } ∷ history)
+  reading-entered : reading (l .particulars) (withEntry (DeskCall.named request serial clock) a history)
       ≡ readingAfter l (reading (l .particulars) history) (runOut (l .particulars) clock (reading (l .particulars) history)) clock request a
   unfolding reading
   reading-entered = rw (eq-eqb serial (l .particulars .serial) named)
 
-  row-entered : rowOf l (record { call = DeskCall.named request serial clock; answer = a } ∷ history)
+  row-entered : rowOf l (withEntry (DeskCall.named request serial clock) a history)
       ≡ rowWith l (readingAfter l (reading (l .particulars) history) (runOut (l .particulars) clock (reading (l .particulars) history)) clock request a)
         (max (pastStep a) (nextOf (l .particulars .serial) history)) (atChecked a (λ e. e) (offsetOf (l .particulars .serial) history)) (atChecked a (λ e. clock) (usedOf (l .particulars .serial) history))
   unfolding rowOf nextOf offsetOf usedOf
@@ -105,7 +109,7 @@ module _ (l : Loaded) (history : List Entry) (request : Request) (serial clock :
 
   key-entered : eqb (readingAfter l (reading (l .particulars) history) (runOut (l .particulars) clock (reading (l .particulars) history)) clock request a .state) 6
         ≡ cond (wipes a) true (eqb (runOut (l .particulars) clock (reading (l .particulars) history) .state) 6)
-      → cond (wipes a) (replicate keyBytes 0) (keyOf l history) ≡ keyOf l (record { call = DeskCall.named request serial clock; answer = a } ∷ history)
+      → cond (wipes a) (replicate keyBytes 0) (keyOf l history) ≡ keyOf l (withEntry (DeskCall.named request serial clock) a history)
   unfolding keyOf
   key-entered z =
       rw (reading-entered, z, run-out-void (l .particulars) clock (reading (l .particulars) history))
@@ -118,7 +122,7 @@ module _ (l : Loaded) (history : List Entry) (request : Request) (serial clock :
   token-entered : (s : Served)
       → Agrees l (reading (l .particulars) history) (runOut (l .particulars) clock (reading (l .particulars) history))
         (nextOf (l .particulars .serial) history) (offsetOf (l .particulars .serial) history) (usedOf (l .particulars .serial) history) clock request s a
-      → kept (tokenOf history l) s ≡ tokenOf (record { call = DeskCall.named request serial clock; answer = a } ∷ history) l
+      → kept (tokenOf history l) s ≡ tokenOf (withEntry (DeskCall.named request serial clock) a history) l
   token-entered s agrees =
       ap₂ (λ (r : Row) (key : List ℕ). let t : Token = record { row = r; key = key } in t) (agrees .row ∙ sym row-entered) (rw (agrees .answer) (key-entered (agrees .zeroed)))
 
@@ -140,7 +144,7 @@ pub request-token : (passwords : PasswordRule) (l : Loaded) (history : List Entr
     → serial ≡ l .particulars .serial → Sane (tokenOf history l)
     → a ≡ requested passwords l (trackOf (l .particulars) history) (usedOf (l .particulars .serial) history) (runOut (l .particulars) clock (reading (l .particulars) history)) clock request
     → (requestedToken passwords request clock (tokenOf history l) .answer ≡ a)
-    × (kept (tokenOf history l) (requestedToken passwords request clock (tokenOf history l)) ≡ tokenOf (record { call = DeskCall.named request serial clock; answer = a } ∷ history) l)
+    × (kept (tokenOf history l) (requestedToken passwords request clock (tokenOf history l)) ≡ tokenOf (withEntry (DeskCall.named request serial clock) a history) l)
 unfolding rowOf
 request-token passwords l history request serial clock a e sane q =
     let x = reading (l .particulars) history in

@@ -10,6 +10,7 @@ use lib.Dec.{eqb, ltb}
 use lib.ListN.{length}
 use Rattle.words.specs.ListsLaws.{by-test}
 use Rattle.words.specs.Tables.{and-left, and-right}
+use Rattle.window.specs.CheckLaws.{clash}
 use Rattle.window.specs.declared.Track.{Track}
 use Rattle.window.specs.PasswordAt.{PasswordRule}
 use Rattle.token.specs.declared.answers.Refusal.{Refusal}
@@ -19,8 +20,9 @@ use Rattle.desk.specs.declared.particulars.Particulars.{Particulars}
 use Rattle.desk.specs.Requests.{Request, DeskCall, clockOk, requestOk, loadOk}
 use Rattle.ledger.specs.Ledger.{Entry, Loaded, Reading, names, loads, loadIn, loadOf, usedOf, oneOf, runOut, isQuery, entered, reading, needing, trackOf, requested, requestedOf, loadedOf, answerTo, ledgerFrom, ledger}
 use Rattle.ledger.specs.Promise.{stepIn, acceptedSteps, NothingAfterVoid}
+use Rattle.ledger.specs.Described.{withEntry}
 use Rattle.ledger.specs.LoadsLaws.{found-serial, found-behind}
-use Rattle.ledger.specs.TokenLaws.{run-out-void}
+use Rattle.ledger.specs.TokenLaws.{run-out-void, bad-argument-enters}
 use Rattle.ledger.specs.AnswerLaws.{either, request-fits}
 
 -- the serial is loaded, and its state reads void
@@ -60,13 +62,6 @@ module _ (passwords : PasswordRule) (l : Loaded) (k : Track) (used : ℕ) (x : R
 -- ---- a call, where the serial is void before it
 
 module _ (passwords : PasswordRule) (rows : ℕ) (history : List Entry) (serial : ℕ) where
-  abbrev entry : DeskCall → Entry
-  entry call = record { call = call; answer = answerTo passwords rows history call }
-
-  either-bad : (b : Bool) → b || true ≡ true
-  either-bad true = refl
-  either-bad false = refl
-
   module _ (v : Voided serial history) where
     abbrev Quiet : DeskCall → Answer → Type 0
     Quiet call a = (stepIn a ≡ []) × (entered (v .load .particulars) call a (reading (v .load .particulars) history) .state ≡ 6)
@@ -82,9 +77,9 @@ module _ (passwords : PasswordRule) (rows : ℕ) (history : List Entry) (serial 
         rw found
         (either (Quiet (DeskCall.named request other clock)) (clockOk clock && requestOk request)
         (request-dead passwords (v .load) (trackOf p history) (usedOf (p .serial) history) (reading p history) other clock (v .void) request)
-        (refl, rw (either-bad (isQuery request)) (v .void)))
+        (refl, rw (bad-argument-enters request other clock p (reading p history)) (v .void)))
 
-    stays-voided : (call : DeskCall) → Voided serial (entry call ∷ history)
+    stays-voided : (call : DeskCall) → Voided serial (withEntry call (answerTo passwords rows history call) history)
     unfolding loads reading
     stays-voided call =
         let same = ap (names call) (found-serial serial (v .load) (loads history) (v .found)) in
@@ -99,16 +94,13 @@ module _ (passwords : PasswordRule) (rows : ℕ) (history : List Entry) (serial 
   abbrev NoVoid : Answer → Type 0
   NoVoid a = eqb (numberOf a) 0x010a ≡ false
 
-  clash : {A : Type 0} {b : Bool} → b ≡ true → b ≡ false → A
-  clash t f = let z : true ≡ false = cc in let w : _≡_ {A = ℕ} 0 1 = cc in absurd (omega arith)
-
   load-numbered : (o : Option Loaded) → NoVoid (loadedOf rows (loads history) o)
   load-numbered none = either NoVoid (ltb (length (loads history)) rows) refl refl
   load-numbered (some l) = refl
 
   request-voids : (request : Request) (clock : ℕ) (o : Option Loaded) → loadOf serial (loads history) ≡ o
       → eqb (numberOf (requestedOf passwords history clock request o)) 0x010a ≡ true
-      → Voided serial (record { call = DeskCall.named request serial clock; answer = requestedOf passwords history clock request o } ∷ history)
+      → Voided serial (withEntry (DeskCall.named request serial clock) (requestedOf passwords history clock request o) history)
   unfolding loads reading
   request-voids request clock none found n = clash n refl
   request-voids request clock (some l) found n =
@@ -120,7 +112,7 @@ module _ (passwords : PasswordRule) (rows : ℕ) (history : List Entry) (serial 
         void = rw (eq-eqb serial (p .serial) (sym (found-serial serial l (loads history) found))) (fits .voids n (reading p history));
       }
 
-  call-voids : (call : DeskCall) → names call serial ≡ true → eqb (numberOf (answerTo passwords rows history call)) 0x010a ≡ true → Voided serial (entry call ∷ history)
+  call-voids : (call : DeskCall) → names call serial ≡ true → eqb (numberOf (answerTo passwords rows history call)) 0x010a ≡ true → Voided serial (withEntry call (answerTo passwords rows history call) history)
   unfolding answerTo
   call-voids (DeskCall.load p key) t n = clash n (either NoVoid (loadOk p key) (load-numbered (loadOf (p .serial) (loads history))) refl)
   call-voids (DeskCall.named request other clock) t n =
@@ -136,7 +128,7 @@ module _ (passwords : PasswordRule) (rows serial : ℕ) where
   unfolding ledgerFrom acceptedSteps
   nothing-accepted history [] v = refl
   nothing-accepted history (call ∷ calls) v =
-      let later = nothing-accepted (entry passwords rows history serial call ∷ history) calls (stays-voided passwords rows history serial v call) in
+      let later = nothing-accepted (withEntry call (answerTo passwords rows history call) history) calls (stays-voided passwords rows history serial v call) in
       by-test (names call serial)
       (λ t. rw (t, call-quiet passwords rows history serial v call t .0) later)
       (λ f. rw f later)
@@ -146,9 +138,9 @@ module _ (passwords : PasswordRule) (rows serial : ℕ) where
   nothing-after-void history [] = tt
   nothing-after-void history (call ∷ calls) =
       let answer = answerTo passwords rows history call in
-      (λ t. nothing-accepted (entry passwords rows history serial call ∷ history) calls
+      (λ t. nothing-accepted (withEntry call (answerTo passwords rows history call) history) calls
       (call-voids passwords rows history serial call (and-left (names call serial) (eqb (numberOf answer) 0x010a) t) (and-right (names call serial) (eqb (numberOf answer) 0x010a) t)),
-      nothing-after-void (entry passwords rows history serial call ∷ history) calls)
+      nothing-after-void (withEntry call (answerTo passwords rows history call) history) calls)
 
   pub ledger-void-accepts-nothing : (calls : List DeskCall) → NothingAfterVoid serial calls (ledger passwords rows calls .answers)
   ledger-void-accepts-nothing calls = nothing-after-void [] calls
