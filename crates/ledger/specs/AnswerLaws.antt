@@ -3,13 +3,12 @@ use Prim.Native.Nat.{ℕ, _≤_}
 use mathlib.Core.Path.{_≡_, refl}
 use mathlib.Core.Bool.{Bool, true, false, cond}
 use mathlib.Core.List.{List, [], _∷_}
-use native.Mathlib.Omega.{arith}
 use lib.Dec.{eqb, leb}
 use Rattle.window.specs.declared.Size.{Size}
 use Rattle.window.specs.declared.Size.the-variants.{Small, Medium, Large}
-use Rattle.window.specs.CheckLaws.{clash}
 use Rattle.window.specs.declared.Track.{Track}
 use Rattle.window.specs.declared.Outcome.{Outcome}
+use Rattle.window.specs.CheckLaws.{clash}
 use Rattle.window.specs.PasswordAt.{PasswordRule, hasBy}
 use Rattle.window.specs.TokenCheck.{singleCheck, pairCheck}
 use Rattle.token.specs.declared.calls.Call.{Call}

@@ -1,8 +1,8 @@
 -- Every history that the ledger machine makes is consistent.
 use Prim.Native.Nat.{ℕ}
-use mathlib.Core.Path.{_≡_, refl, sym, ap, _∙_}
-use mathlib.Core.Bool.{Bool, true, false, _&&_, cond}
-use mathlib.Core.List.{List, [], _∷_, _++_, append-nil}
+use mathlib.Core.Path.{_≡_, refl, ap, _∙_}
+use mathlib.Core.Bool.{false, _&&_}
+use mathlib.Core.List.{List, [], _∷_, append-nil}
 use mathlib.Core.Option.{Option, none, some}
 use borrow.Author.Tests.{eqb-true}
 use lib.Dec.{eqb, ltb}
@@ -45,7 +45,7 @@ module _ (history : List Entry) (c : Consistent history) where
         record {
           distinct = distinct-behind (record { particulars = p; key = key }) (loads history) (c .distinct) missing;
           unread = λ serial m. let before = missing-before (record { particulars = p; key = key }) serial (loads history) m in
-          still-unread (unnamed-unmoved serial _ history (before .1)) (c .unread serial (before .0));
+              still-unread (unnamed-unmoved serial _ history (before .1)) (c .unread serial (before .0));
         }
 
     load-consistent : (rows : ℕ) → Consistent (withEntry (DeskCall.load p key) (loadedOf rows (loads history) (loadOf (p .serial) (loads history))) history)

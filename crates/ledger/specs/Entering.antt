@@ -1,19 +1,17 @@
 -- What an entry makes of a token's row, over variables for the readings before it: the row of a call and of its answer.
 use Prim.Native.Nat.{ℕ, max}
 use mathlib.Core.Path.{_≡_}
-use mathlib.Core.Bool.{Bool, true, false, _&&_, _||_, not, cond}
-use mathlib.Core.List.{List, []}
+use mathlib.Core.Bool.{true, _||_, cond}
 use lib.Dec.{eqb}
 use lib.ListN.{length}
 use Rattle.window.specs.declared.Offset.{Offset}
 use Rattle.row.specs.declared.Row.{Row}
-use Rattle.token.specs.declared.calls.Call.{Call}
 use Rattle.token.specs.declared.answers.Answer.{Answer}
 use Rattle.token.specs.declared.serving.Served.{Served}
 use Rattle.token.specs.Codes.{numberOf}
 use Rattle.token.specs.OnTable.{wipes}
 use Rattle.desk.specs.Requests.{Request}
-use Rattle.ledger.specs.Ledger.{Loaded, Reading, oneOf, pastStep, atChecked, answered, isQuery}
+use Rattle.ledger.specs.Ledger.{Loaded, Reading, pastStep, atChecked, answered, isQuery}
 
 -- the row of a load with its readings
 abbrev pub rowWith : Loaded → Reading → ℕ → Offset → ℕ → Row

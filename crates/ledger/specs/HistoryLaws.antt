@@ -1,15 +1,15 @@
 -- The tokens of a history, and one more call: the desk on tokens gives the ledger machine's answer and the tokens of the longer history.
-use Prim.Native.Nat.{ℕ, suc, max, _≤_, _<_}
+use Prim.Native.Nat.{ℕ, suc}
 use mathlib.Core.Path.{_≡_, refl, sym, ap, ap₂, _∙_}
-use mathlib.Core.Bool.{Bool, true, false, _&&_, _||_, cond}
+use mathlib.Core.Bool.{Bool, true, false, _&&_, cond}
 use mathlib.Core.List.{List, [], _∷_, _++_, append-nil}
 use mathlib.Core.Option.{Option, none, some}
-use native.Mathlib.Omega.{arith}
-use borrow.Author.Tests.{eqb-true, eqb-false, eq-eqb, ne-eqb}
+use borrow.Author.Tests.{eqb-true, eq-eqb}
 use lib.Dec.{eqb, ltb}
 use lib.ListN.{length}
 use Rattle.words.specs.ListsLaws.{by-test}
 use Rattle.window.specs.PasswordAt.{PasswordRule}
+use Rattle.row.specs.Row.{render}
 use Rattle.row.specs.Table.{zeroFilled}
 use Rattle.token.specs.declared.calls.Call.{Call}
 use Rattle.token.specs.declared.answers.Content.{Content}
@@ -18,12 +18,12 @@ use Rattle.token.specs.declared.answers.Answer.{Answer}
 use Rattle.token.specs.Codes.{refusalNumber}
 use Rattle.desk.specs.declared.particulars.Particulars.{Particulars}
 use Rattle.desk.specs.Requests.{Request, DeskCall, clockOk, requestOk, loadedRow, loadOk}
-use Rattle.ledger.specs.Ledger.{Entry, Loaded, Reading, names, loads, loadOf, isQuery, entered, reading, nextOf, offsetOf, usedOf, requestedOf, loadedOf, answerTo, rowOf, keyOf}
-use Rattle.ledger.specs.Tokens.{Token, Held, AllSane, servedAmong, hasToken, loadedAmong, tokensAfter}
+use Rattle.ledger.specs.Ledger.{Entry, Loaded, Reading, names, loads, loadOf, entered, reading, nextOf, offsetOf, usedOf, requestedOf, loadedOf, answerTo, rowOf, keyOf, rowsOf, tableOf}
+use Rattle.ledger.specs.Tokens.{Token, Held, AllSane, servedAmong, hasToken, loadedAmong, tokensAfter, rendered, tableWith}
 use Rattle.ledger.specs.Described.{withEntry, tokenOf, tokensOf, heldAfter, Distinct, Unread, Consistent}
 use Rattle.ledger.specs.LoadsLaws.{first-differs, rest-missing, flipped, named-loads}
 use Rattle.ledger.specs.OneTokenLaws.{none-larger}
-use Rattle.ledger.specs.TokenLaws.{Unmoved, unnamed-unmoved, refused-unmoved, unnamed-stays, refused-stays, bad-argument-enters, request-token}
+use Rattle.ledger.specs.TokenLaws.{unnamed-stays, refused-stays, bad-argument-enters, request-token}
 
 -- ---- entries that leave a list of tokens
 
@@ -128,9 +128,9 @@ module _ (p : Particulars) (key : List ℕ) (history : List Entry) where
     where
       beside : (o : Option Loaded) → loadOf (p .serial) (loads history) ≡ o
           → cond (isLoaded o) (record { answer = Answer.Refused Refusal.AlreadyLoaded; tokens = tokensOf (loads history) history })
-            (cond (ltb (length (loads history)) rows)
-            (record { answer = Answer.Success Call.Load Content.Plain; tokens = tokensOf (loads history) history ++ (record { row = loadedRow p key; key = zeroFilled key } ∷ []) })
-            (record { answer = Answer.Refused Refusal.TableFull; tokens = tokensOf (loads history) history }))
+          (cond (ltb (length (loads history)) rows)
+          (record { answer = Answer.Success Call.Load Content.Plain; tokens = tokensOf (loads history) history ++ (record { row = loadedRow p key; key = zeroFilled key } ∷ []) })
+          (record { answer = Answer.Refused Refusal.TableFull; tokens = tokensOf (loads history) history }))
           ≡ heldAfter (DeskCall.load p key) (loadedOf rows (loads history) o) history
       beside (some l) e = held-by (tokens-refused Refusal.AlreadyLoaded refl)
       beside none e =
@@ -147,7 +147,19 @@ module _ (passwords : PasswordRule) (rows : ℕ) (history : List Entry) where
   history-step (DeskCall.load p key) c sane =
       by-test (loadOk p key) (λ t. rw t (loaded-among p key history rows c)) (λ f. rw f (held-by (tokens-refused p key history Refusal.BadArgument refl)))
   history-step (DeskCall.named request serial clock) c sane =
-      by-test (clockOk clock && requestOk request) 
+      by-test (clockOk clock && requestOk request)
       (λ t. let a = requestedOf passwords history clock request (loadOf serial (loads history)) in
       rw (t, named-loads request serial clock a history) (served-among passwords history request serial clock a (loads history) (c .distinct) sane refl))
       (λ f. rw (f, named-loads request serial clock (Answer.Refused Refusal.BadArgument) history) (held-by (sym (refused-stay _ history refl (bad-argument-enters request serial clock) (loads history)))))
+
+-- ---- the table
+
+rendered-rows : (history : List Entry) (ls : List Loaded) → rendered (tokensOf ls history) ≡ rowsOf ls history
+unfolding rendered tokensOf rowsOf
+rendered-rows history [] = refl
+rendered-rows history (l ∷ ls) = ap (λ (s : List ℕ). render (rowOf l history) (keyOf l history) ++ s) (rendered-rows history ls)
+
+-- the ledger machine's table is that of its tokens
+pub history-table : (rows : ℕ) (history : List Entry) → tableWith rows (tokensOf (loads history) history) ≡ tableOf rows history
+unfolding tableWith tableOf
+history-table rows history = rw (rendered-rows history (loads history), length-tokens history (loads history))

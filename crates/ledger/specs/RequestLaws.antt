@@ -11,19 +11,16 @@ use Rattle.window.specs.declared.Offset.{Offset}
 use Rattle.window.specs.declared.Track.{Track}
 use Rattle.window.specs.PasswordAt.{PasswordRule, hasBy}
 use Rattle.window.specs.TokenCheck.{singleCheck, pairCheck}
-use Rattle.row.specs.declared.Row.{Row}
 use Rattle.token.specs.declared.calls.Call.{Call}
 use Rattle.token.specs.declared.calls.Checking.{Checking}
 use Rattle.token.specs.declared.answers.Content.{Content}
 use Rattle.token.specs.declared.answers.Refusal.{Refusal}
 use Rattle.token.specs.declared.answers.Answer.{Answer}
-use Rattle.token.specs.declared.serving.Served.{Served}
 use Rattle.token.specs.Calls.{checkingOf, usedRefusal, wrongRefusal}
-use Rattle.token.specs.States.{waited}
 use Rattle.token.specs.Serving.{serving, served, querying}
 use Rattle.desk.specs.Requests.{Request}
 use Rattle.ledger.specs.Ledger.{Loaded, Reading, runOut, needing, judgedBy, unexpired, requested}
-use Rattle.ledger.specs.Tokens.{Token, requestedToken}
+use Rattle.ledger.specs.Tokens.{requestedToken}
 use Rattle.ledger.specs.FreshLaws.{single-fresh, pair-fresh}
 use Rattle.ledger.specs.Entering.{rowWith, Agrees}
 use Rattle.ledger.specs.OneTokenLaws.{Makes, alive, errs, waited-reads, none-larger, needing-agrees, plain-agrees, check-agrees}
@@ -50,7 +47,7 @@ module _ (passwords : PasswordRule) (l : Loaded) (x y : Reading) (next : ℕ) (d
     module _ (u : errs (usedRefusal call) ≡ true) (w : errs (wrongRefusal call) ≡ true) (size : Size) where
       single : checkingOf call ≡ Checking.Single size
           → Alike (needing needs (y .state) (unexpired (l .particulars) clock
-            (judgedBy call (usedRefusal call) (wrongRefusal call) track clock (singleCheck track clock size (has challenge presented)))))
+          (judgedBy call (usedRefusal call) (wrongRefusal call) track clock (singleCheck track clock size (has challenge presented)))))
       unfolding served serving
       single e =
           rw (waited-reads l x next d used clock, ran, e)
@@ -61,7 +58,7 @@ module _ (passwords : PasswordRule) (l : Loaded) (x y : Reading) (next : ℕ) (d
 
       pair : checkingOf call ≡ Checking.Pair size
           → Alike (needing needs (y .state) (unexpired (l .particulars) clock
-            (judgedBy call (usedRefusal call) (wrongRefusal call) track clock (pairCheck track clock size (has challenge presented) (has challenge following)))))
+          (judgedBy call (usedRefusal call) (wrongRefusal call) track clock (pairCheck track clock size (has challenge presented) (has challenge following)))))
       unfolding served serving
       pair e =
           rw (waited-reads l x next d used clock, ran, e)
@@ -73,10 +70,10 @@ module _ (passwords : PasswordRule) (l : Loaded) (x y : Reading) (next : ℕ) (d
   -- a sync names its window's size
   synced : (choice : ℕ) (presented following : List ℕ) (b : Bool)
       → Agrees l x y next d used clock (Request.sync choice presented following)
-        (served passwords (cond b Call.SyncMedium Call.SyncLarge) (rowWith l x next d used) key clock [] presented following)
-        (needing (2 ∷ 3 ∷ 4 ∷ []) (y .state) (unexpired (l .particulars) clock
-        (judgedBy (cond b Call.SyncMedium Call.SyncLarge) Refusal.Used Refusal.WrongAtSync track clock
-        (pairCheck track clock (cond b Medium Large) (has [] presented) (has [] following)))))
+      (served passwords (cond b Call.SyncMedium Call.SyncLarge) (rowWith l x next d used) key clock [] presented following)
+      (needing (2 ∷ 3 ∷ 4 ∷ []) (y .state) (unexpired (l .particulars) clock
+      (judgedBy (cond b Call.SyncMedium Call.SyncLarge) Refusal.Used Refusal.WrongAtSync track clock
+      (pairCheck track clock (cond b Medium Large) (has [] presented) (has [] following)))))
   synced choice presented following true =
       pair (Request.sync choice presented following) Call.SyncMedium (2 ∷ 3 ∷ 4 ∷ [])
       (search refl) [] presented following refl refl Medium refl
@@ -86,13 +83,13 @@ module _ (passwords : PasswordRule) (l : Loaded) (x y : Reading) (next : ℕ) (d
 
   query-agrees : eqb (x .state) 6 ≡ eqb (y .state) 6
       → Agrees l x y next d used clock Request.query (record { answer = querying (rowWith l x next d used) clock; row = rowWith l x next d used })
-        (Answer.Success Call.Query (Content.Told (record { state = y .state; errors = y .errors; used = record { 0 = used } })))
+      (Answer.Success Call.Query (Content.Told (record { state = y .state; errors = y .errors; used = record { 0 = used } })))
   unfolding querying
   query-agrees e = record { answer = rw (waited-reads l x next d used clock, ran); row = rw (none-larger next); zeroed = e }
 
   pub request-agrees : (zeros : List ℕ) → take (length (l .key)) zeros ≡ key → eqb (x .state) 6 ≡ eqb (y .state) 6 → (request : Request)
       → Agrees l x y next d used clock request (requestedToken passwords request clock (record { row = rowWith l x next d used; key = zeros }))
-        (requested passwords l track used y clock request)
+      (requested passwords l track used y clock request)
   request-agrees zeros cut e (Request.login presented) =
       rw cut
       (single (Request.login presented) Call.Login (2 ∷ [])

@@ -1,12 +1,12 @@
 -- The accepted steps of a token rise, over the ledger machine's own answers.
 use Prim.Native.Nat.{ℕ, max, _<_}
-use mathlib.Core.Path.{_≡_, refl, sym, _∙_}
-use mathlib.Core.Bool.{Bool, true, false, _&&_, cond}
+use mathlib.Core.Path.{_≡_, refl}
+use mathlib.Core.Bool.{true, _&&_}
 use mathlib.Core.List.{List, [], _∷_, _++_}
 use mathlib.Core.Option.{Option, none, some}
 use native.Mathlib.Omega.{arith}
 use borrow.Author.Tests.{eqb-true}
-use lib.Dec.{eqb, ltb}
+use lib.Dec.{ltb}
 use lib.ListN.{length}
 use Rattle.words.specs.ListsLaws.{by-test}
 use Rattle.window.specs.PasswordAt.{PasswordRule}

@@ -1,10 +1,10 @@
 -- One token of a history, and one more entry: an entry that does not name it leaves it, and one that does is what the desk does with it.
 use Prim.Native.Nat.{ℕ, _-_, max, _≤_, _<_}
-use mathlib.Core.Path.{_≡_, refl, sym, ap, ap₂, _∙_}
-use mathlib.Core.Bool.{Bool, true, false, _&&_, _||_, cond}
-use mathlib.Core.List.{List, [], _∷_}
+use mathlib.Core.Path.{_≡_, refl, sym, ap₂, _∙_}
+use mathlib.Core.Bool.{Bool, true, false, _&&_, cond}
+use mathlib.Core.List.{List, _∷_}
 use native.Mathlib.Omega.{arith}
-use borrow.Author.Tests.{eqb-true, eqb-false, eq-eqb, ne-eqb, leb-true}
+use borrow.Author.Tests.{eqb-true, eq-eqb, leb-true}
 use lib.Dec.{eqb, leb}
 use lib.ListN.{length, take, replicate}
 use lib.Seq.{take-at}
@@ -12,7 +12,7 @@ use Rattle.words.specs.ListsLaws.{by-test}
 use Rattle.words.specs.Tables.{and-left}
 use Rattle.window.specs.PasswordAt.{PasswordRule}
 use Rattle.row.specs.declared.Row.{Row}
-use Rattle.row.specs.Row.{keyBytes, numberTests, numbersOk, allOf}
+use Rattle.row.specs.Row.{keyBytes, numberTests, numbersOk}
 use Rattle.row.specs.Table.{zeroFilled}
 use Rattle.token.specs.declared.answers.Refusal.{Refusal}
 use Rattle.token.specs.declared.answers.Answer.{Answer}
@@ -103,12 +103,12 @@ module _ (l : Loaded) (history : List Entry) (request : Request) (serial clock :
 
   row-entered : rowOf l (withEntry (DeskCall.named request serial clock) a history)
       ≡ rowWith l (readingAfter l (reading (l .particulars) history) (runOut (l .particulars) clock (reading (l .particulars) history)) clock request a)
-        (max (pastStep a) (nextOf (l .particulars .serial) history)) (atChecked a (λ e. e) (offsetOf (l .particulars .serial) history)) (atChecked a (λ e. clock) (usedOf (l .particulars .serial) history))
+      (max (pastStep a) (nextOf (l .particulars .serial) history)) (atChecked a (λ e. e) (offsetOf (l .particulars .serial) history)) (atChecked a (λ e. clock) (usedOf (l .particulars .serial) history))
   unfolding rowOf nextOf offsetOf usedOf
   row-entered = rw (reading-entered, eq-eqb serial (l .particulars .serial) named)
 
   key-entered : eqb (readingAfter l (reading (l .particulars) history) (runOut (l .particulars) clock (reading (l .particulars) history)) clock request a .state) 6
-        ≡ cond (wipes a) true (eqb (runOut (l .particulars) clock (reading (l .particulars) history) .state) 6)
+      ≡ cond (wipes a) true (eqb (runOut (l .particulars) clock (reading (l .particulars) history) .state) 6)
       → cond (wipes a) (replicate keyBytes 0) (keyOf l history) ≡ keyOf l (withEntry (DeskCall.named request serial clock) a history)
   unfolding keyOf
   key-entered z =
@@ -121,7 +121,7 @@ module _ (l : Loaded) (history : List Entry) (request : Request) (serial clock :
 
   token-entered : (s : Served)
       → Agrees l (reading (l .particulars) history) (runOut (l .particulars) clock (reading (l .particulars) history))
-        (nextOf (l .particulars .serial) history) (offsetOf (l .particulars .serial) history) (usedOf (l .particulars .serial) history) clock request s a
+      (nextOf (l .particulars .serial) history) (offsetOf (l .particulars .serial) history) (usedOf (l .particulars .serial) history) clock request s a
       → kept (tokenOf history l) s ≡ tokenOf (withEntry (DeskCall.named request serial clock) a history) l
   token-entered s agrees =
       ap₂ (λ (r : Row) (key : List ℕ). let t : Token = record { row = r; key = key } in t) (agrees .row ∙ sym row-entered) (rw (agrees .answer) (key-entered (agrees .zeroed)))
@@ -150,11 +150,11 @@ request-token passwords l history request serial clock a e sane q =
     let x = reading (l .particulars) history in
     let void = run-out-void (l .particulars) clock x in
     let agrees : Agrees l x (runOut (l .particulars) clock x) (nextOf (l .particulars .serial) history) (offsetOf (l .particulars .serial) history)
-      (usedOf (l .particulars .serial) history) clock request (requestedToken passwords request clock (tokenOf history l)) a =
-      rw q (request-agrees passwords l x (runOut (l .particulars) clock x)
-      (nextOf (l .particulars .serial) history) (offsetOf (l .particulars .serial) history) (usedOf (l .particulars .serial) history) clock
-      (take (length (l .key)) (keyOf l history)) refl
-      (run-out-low (l .particulars) clock x (state-low l history sane))
-      (run-out-high (l .particulars) clock x (state-high l history sane))
-      (λ f. secret-read l history (void ∙ f)) (keyOf l history) refl void request) in
+    (usedOf (l .particulars .serial) history) clock request (requestedToken passwords request clock (tokenOf history l)) a =
+    rw q (request-agrees passwords l x (runOut (l .particulars) clock x)
+    (nextOf (l .particulars .serial) history) (offsetOf (l .particulars .serial) history) (usedOf (l .particulars .serial) history) clock
+    (take (length (l .key)) (keyOf l history)) refl
+    (run-out-low (l .particulars) clock x (state-low l history sane))
+    (run-out-high (l .particulars) clock x (state-high l history sane))
+    (λ f. secret-read l history (void ∙ f)) (keyOf l history) refl void request) in
     (agrees .answer, token-entered l history request serial clock a e (requestedToken passwords request clock (tokenOf history l)) agrees)

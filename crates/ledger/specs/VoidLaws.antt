@@ -1,22 +1,19 @@
 -- A void token accepts nothing, for ever, over the ledger machine's own answers.
 use Prim.Native.Nat.{ℕ}
 use mathlib.Core.Path.{_≡_, refl, sym, ap, _∙_}
-use mathlib.Core.Bool.{Bool, true, false, _&&_, _||_, cond}
-use mathlib.Core.List.{List, [], _∷_, _++_}
+use mathlib.Core.Bool.{true, false, _&&_}
+use mathlib.Core.List.{List, [], _∷_}
 use mathlib.Core.Option.{Option, none, some}
-use native.Mathlib.Omega.{arith}
 use borrow.Author.Tests.{eqb-true, eq-eqb}
 use lib.Dec.{eqb, ltb}
 use lib.ListN.{length}
 use Rattle.words.specs.ListsLaws.{by-test}
 use Rattle.words.specs.Tables.{and-left, and-right}
-use Rattle.window.specs.CheckLaws.{clash}
 use Rattle.window.specs.declared.Track.{Track}
+use Rattle.window.specs.CheckLaws.{clash}
 use Rattle.window.specs.PasswordAt.{PasswordRule}
-use Rattle.token.specs.declared.answers.Refusal.{Refusal}
 use Rattle.token.specs.declared.answers.Answer.{Answer}
 use Rattle.token.specs.Codes.{numberOf}
-use Rattle.desk.specs.declared.particulars.Particulars.{Particulars}
 use Rattle.desk.specs.Requests.{Request, DeskCall, clockOk, requestOk, loadOk}
 use Rattle.ledger.specs.Ledger.{Entry, Loaded, Reading, names, loads, loadIn, loadOf, usedOf, oneOf, runOut, isQuery, entered, reading, needing, trackOf, requested, requestedOf, loadedOf, answerTo, ledgerFrom, ledger}
 use Rattle.ledger.specs.Promise.{stepIn, acceptedSteps, NothingAfterVoid}
@@ -137,10 +134,11 @@ module _ (passwords : PasswordRule) (rows serial : ℕ) where
   unfolding ledgerFrom
   nothing-after-void history [] = tt
   nothing-after-void history (call ∷ calls) =
-      let answer = answerTo passwords rows history call in
-      (λ t. nothing-accepted (withEntry call (answerTo passwords rows history call) history) calls
-      (call-voids passwords rows history serial call (and-left (names call serial) (eqb (numberOf answer) 0x010a) t) (and-right (names call serial) (eqb (numberOf answer) 0x010a) t)),
-      nothing-after-void (withEntry call (answerTo passwords rows history call) history) calls)
+      let answer = answerTo passwords rows history call in (
+        λ t. nothing-accepted (withEntry call (answerTo passwords rows history call) history) calls
+            (call-voids passwords rows history serial call (and-left (names call serial) (eqb (numberOf answer) 0x010a) t) (and-right (names call serial) (eqb (numberOf answer) 0x010a) t)),
+        nothing-after-void (withEntry call (answerTo passwords rows history call) history) calls,
+      )
 
   pub ledger-void-accepts-nothing : (calls : List DeskCall) → NothingAfterVoid serial calls (ledger passwords rows calls .answers)
   ledger-void-accepts-nothing calls = nothing-after-void [] calls
