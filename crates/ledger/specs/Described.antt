@@ -1,8 +1,9 @@
 -- The tokens that a history describes, and what holds of every history that the ledger machine makes.
-use Prim.Native.Nat.{ℕ}
+use Prim.Native.Nat.{ℕ, _≤_}
 use mathlib.Core.Path.{_≡_}
 use mathlib.Core.List.{List, [], _∷_}
 use mathlib.Core.Option.{none}
+use lib.ListN.{length}
 use Rattle.window.specs.Window.{farthest}
 use Rattle.token.specs.declared.answers.Answer.{Answer}
 use Rattle.desk.specs.Requests.{DeskCall}
@@ -35,6 +36,8 @@ pub record Unread (serial : ℕ) (history : List Entry) : Type 0 where
   pub offset : offsetOf serial history ≡ record { 0 = farthest }
   pub used : usedOf serial history ≡ 0
 
-pub record Consistent (history : List Entry) : Type 0 where
+-- the loads have a row each, no serial in common, and no other serial has been checked
+pub record Consistent (rows : ℕ) (history : List Entry) : Type 0 where
+  pub room : length (loads history) ≤ rows
   pub distinct : Distinct (loads history)
   pub unread : (serial : ℕ) → loadOf serial (loads history) ≡ none → Unread serial history

@@ -1,5 +1,5 @@
 -- The tokens of a history, and one more call: the desk on tokens gives the ledger machine's answer and the tokens of the longer history.
-use Prim.Native.Nat.{ℕ, suc}
+use Prim.Native.Nat.{ℕ, suc, _≤_}
 use mathlib.Core.Path.{_≡_, refl, sym, ap, ap₂, _∙_}
 use mathlib.Core.Bool.{Bool, true, false, _&&_, cond}
 use mathlib.Core.List.{List, [], _∷_, _++_, append-nil}
@@ -103,10 +103,10 @@ module _ (p : Particulars) (key : List ℕ) (history : List Entry) where
   unfolding rowOf keyOf reading nextOf offsetOf usedOf
   new-token u = rw (eq-eqb (p .serial) (p .serial) refl, none-larger (nextOf (p .serial) history), u .next, u .offset, u .used)
 
-  tokens-loaded : Consistent history → loadOf (p .serial) (loads history) ≡ none
+  tokens-loaded : (rows : ℕ) → Consistent rows history → loadOf (p .serial) (loads history) ≡ none
       → tokensOf (loads history) history ++ (record { row = loadedRow p key; key = zeroFilled key } ∷ []) ≡ tokensOf (loads (loading ∷ history)) (loading ∷ history)
   unfolding loads tokensOf
-  tokens-loaded c missing =
+  tokens-loaded rows c missing =
       rw (
         append-tokens (loading ∷ history) (loads history) (record { particulars = p; key = key } ∷ []),
         apart-stay loading history (p .serial) (λ n. refl) (loads history) missing,
@@ -120,7 +120,7 @@ module _ (p : Particulars) (key : List ℕ) (history : List Entry) where
   tokens-refused f n =
       rw (n, append-nil (loads history)) (sym (refused-stay (record { call = DeskCall.load p key; answer = Answer.Refused f }) history refl (λ q r. rw n) (loads history)))
 
-  loaded-among : (rows : ℕ) → Consistent history
+  loaded-among : (rows : ℕ) → Consistent rows history
       → loadedAmong rows p key (tokensOf (loads history) history)
       ≡ heldAfter (DeskCall.load p key) (loadedOf rows (loads history) (loadOf (p .serial) (loads history))) history
   loaded-among rows c =
@@ -135,13 +135,13 @@ module _ (p : Particulars) (key : List ℕ) (history : List Entry) where
       beside (some l) e = held-by (tokens-refused Refusal.AlreadyLoaded refl)
       beside none e =
           by-test (ltb (length (loads history)) rows)
-          (λ t. rw t (held-by (tokens-loaded c e)))
+          (λ t. rw t (held-by (tokens-loaded rows c e)))
           (λ f. rw f (held-by (tokens-refused Refusal.TableFull refl)))
 
 -- ---- a call
 
 module _ (passwords : PasswordRule) (rows : ℕ) (history : List Entry) where
-  pub history-step : (call : DeskCall) → Consistent history → AllSane (tokensOf (loads history) history)
+  pub history-step : (call : DeskCall) → Consistent rows history → AllSane (tokensOf (loads history) history)
       → tokensAfter passwords rows call (tokensOf (loads history) history) ≡ heldAfter call (answerTo passwords rows history call) history
   unfolding tokensAfter answerTo
   history-step (DeskCall.load p key) c sane =
@@ -153,6 +153,9 @@ module _ (passwords : PasswordRule) (rows : ℕ) (history : List Entry) where
       (λ f. rw (f, named-loads request serial clock (Answer.Refused Refusal.BadArgument) history) (held-by (sym (refused-stay _ history refl (bad-argument-enters request serial clock) (loads history)))))
 
 -- ---- the table
+
+pub tokens-fit : (rows : ℕ) (history : List Entry) → Consistent rows history → length (tokensOf (loads history) history) ≤ rows
+tokens-fit rows history c = rw (length-tokens history (loads history)) (c .room)
 
 rendered-rows : (history : List Entry) (ls : List Loaded) → rendered (tokensOf ls history) ≡ rowsOf ls history
 unfolding rendered tokensOf rowsOf

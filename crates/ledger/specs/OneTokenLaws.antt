@@ -56,6 +56,7 @@ madeRight request call needs s = cond (oneOf s needs) (not (eqb s 6) && alike (e
 abbrev suits : Request → Call → List ℕ → ℕ → Bool
 suits request call needs s = alike (allowed call s) (oneOf s needs) && madeRight request call needs s
 
+-- a request and a call are the same line of Part 5's table, each in its own definition
 pub record Makes (request : Request) (call : Call) (needs : List ℕ) : Type 0 where
   pub asked : isQuery request ≡ false
   pub numbered : eqb (successNumber call) 0x9005 ≡ false
@@ -85,8 +86,11 @@ module _ (request : Request) (call : Call) (needs : List ℕ) (makes : Makes req
     leaves-void = alike-equal (eqb (follows request s) 6) (isVoid call) (and-right (not (eqb s 6)) (alike (eqb (follows request s) 6) (isVoid call)) right)
 
 -- used or wrong
+abbrev counts : Refusal → Bool
+counts f = oneOf (refusalNumber f) (0x8004 ∷ 0x8104 ∷ 0x8002 ∷ 0x8102 ∷ 0x8105 ∷ [])
+
 abbrev pub errs : Refusal → Bool
-errs f = not (eqb (refusalNumber f) 0x9005) && oneOf (refusalNumber f) (0x8004 ∷ 0x8104 ∷ 0x8002 ∷ 0x8102 ∷ 0x8105 ∷ [])
+errs f = not (eqb (refusalNumber f) 0x9005) && counts f
 
 -- ---- a row and its readings, in either case
 
@@ -132,8 +136,7 @@ module _ (l : Loaded) (x y : Reading) (next : ℕ) (d : Offset) (used clock : �
 
   module _ (call : Call) (needs : List ℕ) (makes : Makes request call needs) where
     -- a refusal that is neither 9005 nor used nor wrong changes nothing
-    still-agrees : (f : Refusal) → eqb (refusalNumber f) 0x9005 ≡ false → oneOf (refusalNumber f) (0x8004 ∷ 0x8104 ∷ 0x8002 ∷ 0x8102 ∷ 0x8105 ∷ []) ≡ false
-        → Alike (refusing f here) (Answer.Refused f)
+    still-agrees : (f : Refusal) → eqb (refusalNumber f) 0x9005 ≡ false → counts f ≡ false → Alike (refusing f here) (Answer.Refused f)
     still-agrees f n o = record { answer = refl; row = rw (makes .asked, n, o, none-larger next); zeroed = rw (makes .asked, n, o) }
 
     state-agrees : 0 < y .state → y .state ≤ 6 → (a : Answer) → Alike (refusing (stateRefusal (y .state)) here) (needing [] (y .state) a)
@@ -178,8 +181,8 @@ module _ (l : Loaded) (x y : Reading) (next : ℕ) (d : Offset) (used clock : �
       failed-agrees : (f : Refusal) → errs f ≡ true → Alike (refusing f (failed call here clock)) (Answer.Refused f)
       unfolding failed
       failed-agrees f t =
-          let n : eqb (refusalNumber f) 0x9005 ≡ false = not-true _ (and-left (not (eqb (refusalNumber f) 0x9005)) _ t) in
-          let o = and-right (not (eqb (refusalNumber f) 0x9005)) _ t in
+          let n = not-true (eqb (refusalNumber f) 0x9005) (and-left (not (eqb (refusalNumber f) 0x9005)) (counts f) t) in
+          let o = and-right (not (eqb (refusalNumber f) 0x9005)) (counts f) t in
           let lives = alive request call needs makes (y .state) m made in
           let errors = min 255 (y .errors + 1) in
           let test = isLogin request && leb (l .particulars .limit) errors in

@@ -37,30 +37,30 @@ module _ (passwords : PasswordRule) (l : Loaded) (x y : Reading) (next : ℕ) (d
     abbrev Alike : Answer → Type 0
     Alike a = Agrees l x y next d used clock request (served passwords call (rowWith l x next d used) key clock challenge presented following) a
 
-    unchecked : checkingOf call ≡ Checking.Nothing → Alike (needing needs (y .state) (Answer.Success call Content.Plain))
+    unchecked-agrees : checkingOf call ≡ Checking.Nothing → Alike (needing needs (y .state) (Answer.Success call Content.Plain))
     unfolding served serving
-    unchecked e =
+    unchecked-agrees e =
         rw (waited-reads l x next d used clock, ran, e)
         (needing-agrees l x y next d used clock request call needs makes low high
         (λ made. plain-agrees l x y next d used clock request call needs makes high made))
 
     module _ (u : errs (usedRefusal call) ≡ true) (w : errs (wrongRefusal call) ≡ true) (size : Size) where
-      single : checkingOf call ≡ Checking.Single size
+      single-agrees : checkingOf call ≡ Checking.Single size
           → Alike (needing needs (y .state) (unexpired (l .particulars) clock
           (judgedBy call (usedRefusal call) (wrongRefusal call) track clock (singleCheck track clock size (has challenge presented)))))
       unfolding served serving
-      single e =
+      single-agrees e =
           rw (waited-reads l x next d used clock, ran, e)
           (needing-agrees l x y next d used clock request call needs makes low high
           (λ made. rw (secret (alive request call needs makes (y .state) high made))
           (check-agrees l x y next d used clock request call needs makes high made (singleCheck track clock size (has challenge presented))
           (single-fresh track clock size (has challenge presented)) u w)))
 
-      pair : checkingOf call ≡ Checking.Pair size
+      pair-agrees : checkingOf call ≡ Checking.Pair size
           → Alike (needing needs (y .state) (unexpired (l .particulars) clock
           (judgedBy call (usedRefusal call) (wrongRefusal call) track clock (pairCheck track clock size (has challenge presented) (has challenge following)))))
       unfolding served serving
-      pair e =
+      pair-agrees e =
           rw (waited-reads l x next d used clock, ran, e)
           (needing-agrees l x y next d used clock request call needs makes low high
           (λ made. rw (secret (alive request call needs makes (y .state) high made))
@@ -68,18 +68,16 @@ module _ (passwords : PasswordRule) (l : Loaded) (x y : Reading) (next : ℕ) (d
           (pair-fresh track clock size (has challenge presented) (has challenge following)) u w)))
 
   -- a sync names its window's size
-  synced : (choice : ℕ) (presented following : List ℕ) (b : Bool)
+  sync-agrees : (choice : ℕ) (presented following : List ℕ) (b : Bool)
       → Agrees l x y next d used clock (Request.sync choice presented following)
       (served passwords (cond b Call.SyncMedium Call.SyncLarge) (rowWith l x next d used) key clock [] presented following)
       (needing (2 ∷ 3 ∷ 4 ∷ []) (y .state) (unexpired (l .particulars) clock
       (judgedBy (cond b Call.SyncMedium Call.SyncLarge) Refusal.Used Refusal.WrongAtSync track clock
       (pairCheck track clock (cond b Medium Large) (has [] presented) (has [] following)))))
-  synced choice presented following true =
-      pair (Request.sync choice presented following) Call.SyncMedium (2 ∷ 3 ∷ 4 ∷ [])
-      (search refl) [] presented following refl refl Medium refl
-  synced choice presented following false =
-      pair (Request.sync choice presented following) Call.SyncLarge (2 ∷ 3 ∷ 4 ∷ [])
-      (search refl) [] presented following refl refl Large refl
+  sync-agrees choice presented following true =
+      pair-agrees (Request.sync choice presented following) Call.SyncMedium (2 ∷ 3 ∷ 4 ∷ []) (search refl) [] presented following refl refl Medium refl
+  sync-agrees choice presented following false =
+      pair-agrees (Request.sync choice presented following) Call.SyncLarge (2 ∷ 3 ∷ 4 ∷ []) (search refl) [] presented following refl refl Large refl
 
   query-agrees : eqb (x .state) 6 ≡ eqb (y .state) 6
       → Agrees l x y next d used clock Request.query (record { answer = querying (rowWith l x next d used) clock; row = rowWith l x next d used })
@@ -91,35 +89,20 @@ module _ (passwords : PasswordRule) (l : Loaded) (x y : Reading) (next : ℕ) (d
       → Agrees l x y next d used clock request (requestedToken passwords request clock (record { row = rowWith l x next d used; key = zeros }))
       (requested passwords l track used y clock request)
   request-agrees zeros cut e (Request.login presented) =
-      rw cut
-      (single (Request.login presented) Call.Login (2 ∷ [])
-      (search refl) [] presented [] refl refl Small refl)
+      rw cut (single-agrees (Request.login presented) Call.Login (2 ∷ []) (search refl) [] presented [] refl refl Small refl)
   request-agrees zeros cut e (Request.challengeLogin challenge presented) =
-      rw cut
-      (single (Request.challengeLogin challenge presented) Call.ChallengeLogin (2 ∷ [])
-      (search refl) challenge presented [] refl refl Small refl)
+      rw cut (single-agrees (Request.challengeLogin challenge presented) Call.ChallengeLogin (2 ∷ []) (search refl) challenge presented [] refl refl Small refl)
   request-agrees zeros cut e (Request.activate presented following) =
-      rw cut
-      (pair (Request.activate presented following) Call.Activate (1 ∷ [])
-      (search refl) [] presented following refl refl Large refl)
+      rw cut (pair-agrees (Request.activate presented following) Call.Activate (1 ∷ []) (search refl) [] presented following refl refl Large refl)
   request-agrees zeros cut e Request.lock =
-      rw cut
-      (unchecked Request.lock Call.Lock (2 ∷ []) (search refl) [] [] [] refl)
+      rw cut (unchecked-agrees Request.lock Call.Lock (2 ∷ []) (search refl) [] [] [] refl)
   request-agrees zeros cut e (Request.unlock presented) =
-      rw cut
-      (single (Request.unlock presented) Call.Unlock (3 ∷ 4 ∷ [])
-      (search refl) [] presented [] refl refl Small refl)
+      rw cut (single-agrees (Request.unlock presented) Call.Unlock (3 ∷ 4 ∷ []) (search refl) [] presented [] refl refl Small refl)
   request-agrees zeros cut e Request.suspend =
-      rw cut
-      (unchecked Request.suspend Call.Suspend (2 ∷ 3 ∷ 4 ∷ [])
-      (search refl) [] [] [] refl)
+      rw cut (unchecked-agrees Request.suspend Call.Suspend (2 ∷ 3 ∷ 4 ∷ []) (search refl) [] [] [] refl)
   request-agrees zeros cut e (Request.resume presented) =
-      rw cut
-      (single (Request.resume presented) Call.Resume (5 ∷ [])
-      (search refl) [] presented [] refl refl Small refl)
-  request-agrees zeros cut e (Request.sync choice presented following) = rw cut (synced choice presented following (eqb choice 1))
+      rw cut (single-agrees (Request.resume presented) Call.Resume (5 ∷ []) (search refl) [] presented [] refl refl Small refl)
+  request-agrees zeros cut e (Request.sync choice presented following) = rw cut (sync-agrees choice presented following (eqb choice 1))
   request-agrees zeros cut e Request.void =
-      rw cut
-      (unchecked Request.void Call.Void (1 ∷ 2 ∷ 3 ∷ 4 ∷ 5 ∷ [])
-      (search refl) [] [] [] refl)
+      rw cut (unchecked-agrees Request.void Call.Void (1 ∷ 2 ∷ 3 ∷ 4 ∷ 5 ∷ []) (search refl) [] [] [] refl)
   request-agrees zeros cut e Request.query = query-agrees e

@@ -95,66 +95,78 @@ bad-argument-enters request serial clock p r = by-test (isQuery request) (λ t. 
 
 -- ---- an entry that names the token
 
+abbrev before : Loaded → List Entry → Reading
+before l history = reading (l .particulars) history
+
+abbrev waitedOut : Loaded → ℕ → List Entry → Reading
+waitedOut l clock history = runOut (l .particulars) clock (before l history)
+
+-- the reading after a request's answer
+abbrev afterwards : Loaded → List Entry → ℕ → Request → Answer → Reading
+afterwards l history clock request a = readingAfter l (before l history) (waitedOut l clock history) clock request a
+
+-- what is done with the history's token agrees with the answer
+abbrev AgreesOn : Loaded → List Entry → ℕ → Request → Served → Answer → Type 0
+AgreesOn l history clock request s a =
+    Agrees l (before l history) (waitedOut l clock history) (nextOf (l .particulars .serial) history) (offsetOf (l .particulars .serial) history)
+    (usedOf (l .particulars .serial) history) clock request s a
+
 module _ (l : Loaded) (history : List Entry) (request : Request) (serial clock : ℕ) (a : Answer) (named : serial ≡ l .particulars .serial) where
   reading-entered : reading (l .particulars) (withEntry (DeskCall.named request serial clock) a history)
-      ≡ readingAfter l (reading (l .particulars) history) (runOut (l .particulars) clock (reading (l .particulars) history)) clock request a
+      ≡ afterwards l history clock request a
   unfolding reading
   reading-entered = rw (eq-eqb serial (l .particulars .serial) named)
 
   row-entered : rowOf l (withEntry (DeskCall.named request serial clock) a history)
-      ≡ rowWith l (readingAfter l (reading (l .particulars) history) (runOut (l .particulars) clock (reading (l .particulars) history)) clock request a)
-      (max (pastStep a) (nextOf (l .particulars .serial) history)) (atChecked a (λ e. e) (offsetOf (l .particulars .serial) history)) (atChecked a (λ e. clock) (usedOf (l .particulars .serial) history))
+      ≡ rowWith l (afterwards l history clock request a) (max (pastStep a) (nextOf (l .particulars .serial) history)) (atChecked a (λ e. e) (offsetOf (l .particulars .serial) history)) (atChecked a (λ e. clock) (usedOf (l .particulars .serial) history))
   unfolding rowOf nextOf offsetOf usedOf
   row-entered = rw (reading-entered, eq-eqb serial (l .particulars .serial) named)
 
-  key-entered : eqb (readingAfter l (reading (l .particulars) history) (runOut (l .particulars) clock (reading (l .particulars) history)) clock request a .state) 6
-      ≡ cond (wipes a) true (eqb (runOut (l .particulars) clock (reading (l .particulars) history) .state) 6)
+  key-entered : eqb (afterwards l history clock request a .state) 6
+      ≡ cond (wipes a) true (eqb (waitedOut l clock history .state) 6)
       → cond (wipes a) (replicate keyBytes 0) (keyOf l history) ≡ keyOf l (withEntry (DeskCall.named request serial clock) a history)
   unfolding keyOf
   key-entered z =
-      rw (reading-entered, z, run-out-void (l .particulars) clock (reading (l .particulars) history))
-      (nested (wipes a) (eqb (runOut (l .particulars) clock (reading (l .particulars) history) .state) 6))
+      rw (reading-entered, z, run-out-void (l .particulars) clock (before l history))
+      (nested (wipes a) (eqb (waitedOut l clock history .state) 6))
     where
       nested : (b c : Bool) → cond b (replicate {A = ℕ} keyBytes 0) (cond c (replicate keyBytes 0) (zeroFilled (l .key))) ≡ cond (cond b true c) (replicate keyBytes 0) (zeroFilled (l .key))
       nested true c = refl
       nested false c = refl
 
-  token-entered : (s : Served)
-      → Agrees l (reading (l .particulars) history) (runOut (l .particulars) clock (reading (l .particulars) history))
-      (nextOf (l .particulars .serial) history) (offsetOf (l .particulars .serial) history) (usedOf (l .particulars .serial) history) clock request s a
-      → kept (tokenOf history l) s ≡ tokenOf (withEntry (DeskCall.named request serial clock) a history) l
+  token-entered : (s : Served) → AgreesOn l history clock request s a → kept (tokenOf history l) s ≡ tokenOf (withEntry (DeskCall.named request serial clock) a history) l
   token-entered s agrees =
       ap₂ (λ (r : Row) (key : List ℕ). let t : Token = record { row = r; key = key } in t) (agrees .row ∙ sym row-entered) (rw (agrees .answer) (key-entered (agrees .zeroed)))
 
 module _ (l : Loaded) (history : List Entry) where
-  secret-read : eqb (reading (l .particulars) history .state) 6 ≡ false → take (length (l .key)) (keyOf l history) ≡ l .key
+  secret-read : eqb (before l history .state) 6 ≡ false → take (length (l .key)) (keyOf l history) ≡ l .key
   unfolding keyOf
   secret-read f = rw f (take-at (l .key) (replicate (keyBytes - length (l .key)) 0) (length (l .key)) refl)
 
-  state-high : Sane (tokenOf history l) → reading (l .particulars) history .state ≤ 6
+  state-high : Sane (tokenOf history l) → before l history .state ≤ 6
   unfolding rowOf numbersOk numberTests
-  state-high sane = leb-true (reading (l .particulars) history .state) 6 (and-left (leb (reading (l .particulars) history .state) 6) _ (sane .numbers))
+  state-high sane = leb-true (before l history .state) 6 (and-left (leb (before l history .state) 6) _ (sane .numbers))
 
-  state-low : Sane (tokenOf history l) → 0 < reading (l .particulars) history .state
+  state-low : Sane (tokenOf history l) → 0 < before l history .state
   unfolding rowOf
   state-low sane = sane .taken
 
 -- a request to the token
 pub request-token : (passwords : PasswordRule) (l : Loaded) (history : List Entry) (request : Request) (serial clock : ℕ) (a : Answer)
     → serial ≡ l .particulars .serial → Sane (tokenOf history l)
-    → a ≡ requested passwords l (trackOf (l .particulars) history) (usedOf (l .particulars .serial) history) (runOut (l .particulars) clock (reading (l .particulars) history)) clock request
+    → a ≡ requested passwords l (trackOf (l .particulars) history) (usedOf (l .particulars .serial) history) (waitedOut l clock history) clock request
     → (requestedToken passwords request clock (tokenOf history l) .answer ≡ a)
     × (kept (tokenOf history l) (requestedToken passwords request clock (tokenOf history l)) ≡ tokenOf (withEntry (DeskCall.named request serial clock) a history) l)
 unfolding rowOf
 request-token passwords l history request serial clock a e sane q =
-    let x = reading (l .particulars) history in
-    let void = run-out-void (l .particulars) clock x in
-    let agrees : Agrees l x (runOut (l .particulars) clock x) (nextOf (l .particulars .serial) history) (offsetOf (l .particulars .serial) history)
-    (usedOf (l .particulars .serial) history) clock request (requestedToken passwords request clock (tokenOf history l)) a =
-    rw q (request-agrees passwords l x (runOut (l .particulars) clock x)
-    (nextOf (l .particulars .serial) history) (offsetOf (l .particulars .serial) history) (usedOf (l .particulars .serial) history) clock
+    let p = l .particulars in
+    let s = requestedToken passwords request clock (tokenOf history l) in
+    let void = run-out-void p clock (before l history) in
+    let agrees : AgreesOn l history clock request s a =
+    rw q
+    (request-agrees passwords l (before l history) (waitedOut l clock history) (nextOf (p .serial) history) (offsetOf (p .serial) history) (usedOf (p .serial) history) clock
     (take (length (l .key)) (keyOf l history)) refl
-    (run-out-low (l .particulars) clock x (state-low l history sane))
-    (run-out-high (l .particulars) clock x (state-high l history sane))
+    (run-out-low p clock (before l history) (state-low l history sane))
+    (run-out-high p clock (before l history) (state-high l history sane))
     (λ f. secret-read l history (void ∙ f)) (keyOf l history) refl void request) in
-    (agrees .answer, token-entered l history request serial clock a e (requestedToken passwords request clock (tokenOf history l)) agrees)
+    (agrees .answer, token-entered l history request serial clock a e s agrees)

@@ -134,11 +134,11 @@ module _ (passwords : PasswordRule) (rows serial : ℕ) where
   unfolding ledgerFrom
   nothing-after-void history [] = tt
   nothing-after-void history (call ∷ calls) =
-      let answer = answerTo passwords rows history call in (
-        λ t. nothing-accepted (withEntry call (answerTo passwords rows history call) history) calls
-            (call-voids passwords rows history serial call (and-left (names call serial) (eqb (numberOf answer) 0x010a) t) (and-right (names call serial) (eqb (numberOf answer) 0x010a) t)),
-        nothing-after-void (withEntry call (answerTo passwords rows history call) history) calls,
-      )
+      let answer = answerTo passwords rows history call in
+      let longer = withEntry call answer history in
+      let voids : names call serial && eqb (numberOf answer) 0x010a ≡ true → Voided serial longer =
+      λ t. call-voids passwords rows history serial call (and-left (names call serial) (eqb (numberOf answer) 0x010a) t) (and-right (names call serial) (eqb (numberOf answer) 0x010a) t) in
+      (λ t. nothing-accepted longer calls (voids t), nothing-after-void longer calls)
 
   pub ledger-void-accepts-nothing : (calls : List DeskCall) → NothingAfterVoid serial calls (ledger passwords rows calls .answers)
   ledger-void-accepts-nothing calls = nothing-after-void [] calls
