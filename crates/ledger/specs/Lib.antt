@@ -2,3 +2,5 @@
 pub mod Ledger
 pub mod Promise
 pub mod Tokens
+pub mod Branches
+pub mod RangeLaws
