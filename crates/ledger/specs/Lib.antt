@@ -4,3 +4,5 @@ pub mod Promise
 pub mod Tokens
 pub mod Branches
 pub mod RangeLaws
+pub mod ServedLaws
+pub mod SaneLaws
