@@ -6,3 +6,4 @@ pub mod Branches
 pub mod RangeLaws
 pub mod ServedLaws
 pub mod SaneLaws
+pub mod StandingLaws
