@@ -7,3 +7,4 @@ pub mod RangeLaws
 pub mod ServedLaws
 pub mod SaneLaws
 pub mod StandingLaws
+pub mod RequestedLaws
