@@ -8,3 +8,4 @@ pub mod ServedLaws
 pub mod SaneLaws
 pub mod StandingLaws
 pub mod RequestedLaws
+pub mod RenderedLaws
