@@ -9,3 +9,4 @@ pub mod SaneLaws
 pub mod StandingLaws
 pub mod RequestedLaws
 pub mod RenderedLaws
+pub mod BytesStep

@@ -5,8 +5,8 @@ use mathlib.Core.Bool.{Bool, true, false, cond}
 use mathlib.Core.List.{List, [], _∷_, _++_, append-assoc, append-nil}
 use native.Mathlib.Nat.{suc-add, zero-add, add-zero}
 use native.Mathlib.Omega.{arith}
-use borrow.Author.Tests.{eq-eqb}
-use lib.Dec.{eqb}
+use borrow.Author.Tests.{eq-eqb, lt-ltb}
+use lib.Dec.{eqb, ltb}
 use lib.ListN.{length, getD, take, drop, replicate, length-append}
 use lib.Seq.{getD-append-add, take-at, drop-at, drop-drop}
 use Rattle.words.specs.ListsLaws.{by-test, drop-zeros}
@@ -106,3 +106,45 @@ module _ (passwords : PasswordRule) (request : Request) (serial clock : ℕ) (h 
       rw (e, others-behind before t (servedAmong passwords request serial clock ts .tokens) (replicate n 0))
       (requested-among ts (before ++ render (t .row) (t .key)) (at + rowBytes) (others-stand s before at n t ts stands place (all .0))
       (others-place s before at n t ts stands place (all .0)) (all .1))))
+
+-- ---- a load
+
+-- whether a row has the serial, as whether a token has
+pub loaded-among : (p : Particulars) (key s : List ℕ) (n count : ℕ) (ts : List Token) (before : List ℕ) (at : ℕ)
+    → s ≡ before ++ (rendered ts ++ replicate n 0) → length before ≡ at → AllSane ts
+    → loadedBeside p key s (firstRow (hasSerial s (p .serial)) (length ts + count) at)
+    ≡ cond (hasToken (p .serial) ts) (refused Refusal.AlreadyLoaded s) (loadedAt p key s (findEmpty s))
+unfolding hasToken rendered firstRow
+loaded-among p key s n count [] before at stands place all =
+    rw (zero-add count, none-passes (hasSerial s (p .serial)) count at (λ i l. no-serial-behind s before n i stands (omega arith) (p .serial)))
+loaded-among p key s n count (t ∷ ts) before at stands place all =
+    rw (suc-add (length ts) count, first-serial s before at n t ts stands place (all .0) (p .serial))
+    (by-test (eqb (t .row .serial) (p .serial))
+    (λ e. rw e)
+    (λ e.
+    rw e
+    (loaded-among p key s n count ts (before ++ render (t .row) (t .key)) (at + rowBytes) (others-stand s before at n t ts stands place (all .0))
+    (others-place s before at n t ts stands place (all .0)) (all .1))))
+
+-- the first empty row is the first behind the tokens
+pub empty-among : (s : List ℕ) (n count : ℕ) (ts : List Token) (before : List ℕ) (at : ℕ)
+    → s ≡ before ++ (rendered ts ++ replicate n 0) → length before ≡ at → AllSane ts
+    → firstRow (isEmpty s) (length ts + count) at ≡ cond (ltb 0 count) (Place.At (at + rowBytes * length ts)) Place.Nowhere
+unfolding rendered firstRow
+empty-among s n zero [] before at stands place all = refl
+empty-among s n (suc count) [] before at stands place all =
+    let e : at + rowBytes * 0 ≡ at = omega arith in
+    rw (zero-add (suc count), empty-behind s before n at stands (omega arith), e, lt-ltb 0 (suc count) (omega arith))
+empty-among s n count (t ∷ ts) before at stands place all =
+    let e : at + rowBytes * suc (length ts) ≡ at + rowBytes + rowBytes * length ts = omega arith in
+    rw (suc-add (length ts) count, first-taken s before at n t ts stands place (all .0), e)
+    (empty-among s n count ts (before ++ render (t .row) (t .key)) (at + rowBytes) (others-stand s before at n t ts stands place (all .0))
+    (others-place s before at n t ts stands place (all .0)) (all .1))
+
+-- a row written there stands behind the tokens
+pub written-behind : (s front : List ℕ) (n at : ℕ) (r : Row) (key : List ℕ) → s ≡ front ++ replicate n 0 → length front ≡ at
+    → writeRow s at r key ≡ (front ++ render r (zeroFilled key)) ++ replicate (n - rowBytes) 0
+unfolding writeRow
+written-behind s front n at r key stands place =
+    rw (stands, take-at front (replicate n 0) at place, ← drop-drop rowBytes at (front ++ replicate n 0), drop-at front (replicate n 0) at place, drop-zeros rowBytes n)
+    (sym (append-assoc front (render r (zeroFilled key)) (replicate (n - rowBytes) 0)))
