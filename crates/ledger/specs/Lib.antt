@@ -10,3 +10,4 @@ pub mod StandingLaws
 pub mod RequestedLaws
 pub mod RenderedLaws
 pub mod BytesStep
+pub mod OtherRows
