@@ -1,16 +1,15 @@
 -- One call, over bytes and over tokens: on the table that renders sane tokens, the desk gives the tokens' answer and the table of the tokens after.
 use Prim.Native.Nat.{ℕ, _+_, _-_, _*_, _/_, _%_, _^_, _≤_, _<_}
-use mathlib.Core.Path.{_≡_, refl, sym, ap, _∙_}
-use mathlib.Core.Bool.{Bool, true, false, _&&_, cond}
+use mathlib.Core.Path.{_≡_, refl}
+use mathlib.Core.Bool.{true, _&&_, cond}
 use mathlib.Core.List.{List, [], _∷_, _++_}
 use native.Mathlib.Omega.{arith}
-use borrow.Author.Tests.{eq-eqb, le-leb, lt-ltb, le-ltb, ltb-true, ltb-false}
-use lib.Dec.{eqb, leb, ltb}
+use borrow.Author.Tests.{le-leb, lt-ltb, le-ltb, ltb-true, ltb-false}
+use lib.Dec.{ltb}
 use lib.ListN.{length, replicate, length-append, length-replicate}
 use Rattle.words.specs.ListsLaws.{by-test}
 use Rattle.words.specs.Tables.{and-left}
 use Rattle.window.specs.PasswordAt.{PasswordRule}
-use Rattle.window.specs.WindowLaws.{and-both}
 use Rattle.row.specs.declared.reading.Place.{Place}
 use Rattle.row.specs.Row.{rowBytes}
 use Rattle.row.specs.Table.{findRow, findEmpty, zeroFilled, writeRow}

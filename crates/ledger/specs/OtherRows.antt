@@ -1,12 +1,11 @@
 -- A call naming a token changes no other token's row: on any table, damaged rows included.
 use Prim.Native.Nat.{ℕ, zero, suc, _+_, _-_, _*_, _/_, _≤_, _<_}
-use mathlib.Core.Path.{_≡_, refl, sym, ap, _∙_}
+use mathlib.Core.Path.{_≡_, refl, sym, _∙_}
 use mathlib.Core.Logic.{_⊎_, inl, inr, ⊎-elim}
-use mathlib.Core.Bool.{Bool, true, false, _&&_, cond}
+use mathlib.Core.Bool.{Bool, true, false, _&&_}
 use mathlib.Core.List.{List, [], _++_, append-assoc}
 use native.Mathlib.Omega.{arith}
 use borrow.Author.Tests.{eqb-true}
-use lib.Dec.{eqb}
 use lib.ListN.{length, getD, set, take, drop, replicate, length-set, length-append, length-drop, List·getD-append}
 use lib.Seq.{length-take-le, getD-take, getD-drop, getD-append-add, getD-set-other, ext-getD}
 use Rattle.words.specs.Bytes.{put, putBe}
@@ -20,7 +19,7 @@ use Rattle.row.specs.declared.Row.{Row}
 use Rattle.row.specs.declared.reading.Place.{Place}
 use Rattle.row.specs.Row.{rowBytes, keyBytes, rowAt, render, wellFormed}
 use Rattle.row.specs.Table.{isEmpty, hasSerial, firstRow, findRow, findEmpty, storeRow, wipeKey, zeroFilled, writeRow}
-use Rattle.row.specs.TableLaws.{found-has, found-within, empty-has, empty-within, length-store, length-wipe, length-render, length-write}
+use Rattle.row.specs.TableLaws.{found-has, found-within, empty-has, empty-within, length-store, length-render}
 use Rattle.token.specs.declared.calls.Call.{Call}
 use Rattle.token.specs.declared.serving.Served.{Served}
 use Rattle.token.specs.Serving.{served}
@@ -31,7 +30,7 @@ use Rattle.desk.specs.Desk.{syncCall, requestedAt, requestedOf, loadedAt, loade
 use Rattle.ledger.specs.Ledger.{names}
 use Rattle.ledger.specs.Promise.{OtherRowsStay}
 use Rattle.ledger.specs.Branches.{either, either-by}
-use Rattle.ledger.specs.SaneLaws.{key-fits, length-zero-filled}
+use Rattle.ledger.specs.SaneLaws.{length-zero-filled}
 
 -- ---- what stays of a table
 

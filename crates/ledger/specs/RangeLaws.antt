@@ -1,12 +1,11 @@
 -- Part 4's list of ranges as named facts, and what keeps them when a call changes a row's numbers.
 use Prim.Native.Nat.{ℕ, _+_, _-_, _*_, _^_, _≤_, _<_}
-use mathlib.Core.Path.{_≡_, refl, sym, _∙_}
+use mathlib.Core.Path.{_≡_, refl, _∙_}
 use mathlib.Core.Bool.{Bool, true, false, _&&_, _||_, not, cond}
 use native.Mathlib.Nat.{div-le-self}
 use native.Mathlib.Omega.{arith}
-use borrow.Author.Tests.{eqb-true, leb-true, ltb-true, ltb-false, eq-eqb, le-leb, lt-ltb}
+use borrow.Author.Tests.{leb-true, ltb-true, ltb-false, le-leb, lt-ltb}
 use lib.Dec.{eqb, leb, ltb}
-use Rattle.words.specs.ListsLaws.{by-test, and-false}
 use Rattle.words.specs.Tables.{and-left, and-right}
 use Rattle.window.specs.declared.Seconds.{Seconds}
 use Rattle.window.specs.declared.Offset.{Offset}
@@ -20,7 +19,7 @@ use Rattle.row.specs.RowLaws.{InWidths, row-sound}
 use Rattle.row.specs.TableLaws.{SameParticulars}
 use Rattle.token.specs.declared.calls.Call.{Call}
 use Rattle.token.specs.Calls.{ready, lockedByErrors, stateAfter}
-use Rattle.token.specs.States.{changed, waitOver, waited, lockedAfter, moved, offsetAfter, trackAfter, accepted, errorsAfter, locksOut, failed}
+use Rattle.token.specs.States.{changed, waitOver, waited, lockedAfter, moved, trackAfter, accepted, errorsAfter, locksOut, failed}
 use Rattle.ledger.specs.Branches.{either}
 
 -- the largest that `next` may be, and whether d + 600 is in range

@@ -1,13 +1,13 @@
 -- The searches and the calls on the table that renders a list of tokens, with zero rows behind them.
 use Prim.Native.Nat.{ℕ, zero, suc, _+_, _-_, _*_, _^_, _≤_, _<_}
-use mathlib.Core.Path.{_≡_, refl, sym, ap, _∙_}
+use mathlib.Core.Path.{_≡_, refl, sym, _∙_}
 use mathlib.Core.Bool.{Bool, true, false, cond}
 use mathlib.Core.List.{List, [], _∷_, _++_, append-assoc, append-nil}
-use native.Mathlib.Nat.{suc-add, zero-add, add-zero}
+use native.Mathlib.Nat.{suc-add, zero-add}
 use native.Mathlib.Omega.{arith}
 use borrow.Author.Tests.{eq-eqb, lt-ltb}
 use lib.Dec.{eqb, ltb}
-use lib.ListN.{length, getD, take, drop, replicate, length-append}
+use lib.ListN.{length, getD, replicate, length-append}
 use lib.Seq.{getD-append-add, take-at, drop-at, drop-drop}
 use Rattle.words.specs.ListsLaws.{by-test, drop-zeros}
 use Rattle.window.specs.PasswordAt.{PasswordRule}
@@ -17,7 +17,6 @@ use Rattle.row.specs.Row.{rowBytes, render}
 use Rattle.row.specs.Table.{isEmpty, hasSerial, firstRow, findEmpty, zeroFilled, writeRow}
 use Rattle.row.specs.TableLaws.{length-render}
 use Rattle.token.specs.declared.answers.Refusal.{Refusal}
-use Rattle.token.specs.OnTable.{Result}
 use Rattle.desk.specs.declared.particulars.Particulars.{Particulars}
 use Rattle.desk.specs.Requests.{Request}
 use Rattle.desk.specs.Desk.{refused, loadedAt, loadedBeside, requestedOf}

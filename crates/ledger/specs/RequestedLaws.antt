@@ -1,19 +1,19 @@
 -- A request to a token whose row stands in a table: the bytes give the token's answer, and render the token after.
 use Prim.Native.Nat.{ℕ, _^_, _<_}
-use mathlib.Core.Path.{_≡_, refl, ap}
-use mathlib.Core.Bool.{true, false, cond}
+use mathlib.Core.Path.{_≡_}
+use mathlib.Core.Bool.{true}
 use mathlib.Core.List.{List, [], _++_}
-use lib.ListN.{length, take, replicate}
+use lib.ListN.{length, take}
 use Rattle.words.specs.ListsLaws.{by-test}
 use Rattle.window.specs.PasswordAt.{PasswordRule}
-use Rattle.row.specs.Row.{keyBytes, rowAt, render, wellFormed}
+use Rattle.row.specs.Row.{rowAt, render, wellFormed}
 use Rattle.row.specs.RowLaws.{InWidths}
-use Rattle.row.specs.Table.{storeRow, wipeKey}
+use Rattle.row.specs.Table.{storeRow}
 use Rattle.row.specs.TableLaws.{SameParticulars}
 use Rattle.token.specs.declared.calls.Call.{Call}
 use Rattle.token.specs.declared.serving.Served.{Served}
 use Rattle.token.specs.Serving.{querying}
-use Rattle.token.specs.OnTable.{Result, wipes, secretAt, stored, servedAt, queriedAt}
+use Rattle.token.specs.OnTable.{wipes, secretAt, stored, servedAt, queriedAt}
 use Rattle.desk.specs.Requests.{Request}
 use Rattle.desk.specs.Desk.{syncCall, requestedAt}
 use Rattle.ledger.specs.Tokens.{Token, kept, servedToken, requestedToken, Sane}

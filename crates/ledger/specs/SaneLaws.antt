@@ -1,24 +1,24 @@
 -- Tokens stay sane: what a call leaves of them is well formed, and there is room for it.
-use Prim.Native.Nat.{ℕ, zero, suc, _+_, _-_, _^_, _≤_, _<_}
+use Prim.Native.Nat.{ℕ, zero, suc, _-_, _^_, _≤_, _<_}
 use mathlib.Core.Path.{_≡_, refl, ap}
-use mathlib.Core.Bool.{Bool, true, false, _&&_, cond}
+use mathlib.Core.Bool.{true, _&&_}
 use mathlib.Core.List.{List, [], _∷_, _++_}
 use native.Mathlib.Omega.{arith}
 use borrow.Author.Tests.{ltb-true}
 use lib.Dec.{eqb, ltb}
-use lib.ListN.{length, take, drop, replicate, length-append, length-replicate}
+use lib.ListN.{length, drop, replicate, length-append, length-replicate}
 use lib.Seq.{drop-append-seam}
 use Rattle.words.specs.Lists.{allZero}
 use Rattle.words.specs.ListsLaws.{drop-zeros}
 use Rattle.words.specs.Tables.{and-left}
 use Rattle.window.specs.PasswordAt.{PasswordRule}
-use Rattle.row.specs.Row.{keyBytes, numbersOk}
+use Rattle.row.specs.Row.{keyBytes}
 use Rattle.row.specs.RowLaws.{length-in-range}
 use Rattle.row.specs.Table.{zeroFilled}
 use Rattle.token.specs.OnTable.{wipes}
 use Rattle.desk.specs.declared.particulars.Particulars.{Particulars}
 use Rattle.desk.specs.Requests.{Request, DeskCall, clockOk, requestOk, loadedRow, loadOk}
-use Rattle.ledger.specs.Tokens.{Token, Held, kept, requestedToken, servedAmong, hasToken, loadedAmong, tokensAfter, Sane, AllSane}
+use Rattle.ledger.specs.Tokens.{Token, Held, kept, requestedToken, servedAmong, hasToken, tokensAfter, Sane, AllSane}
 use Rattle.ledger.specs.Branches.{either, either-by}
 use Rattle.ledger.specs.RangeLaws.{Live, numbers-in-ranges, ranges-ok}
 use Rattle.ledger.specs.ServedLaws.{requested-leaves}
@@ -49,9 +49,9 @@ module _ (passwords : PasswordRule) (request : Request) (clock : ℕ) (h : clock
         serial = rw (after .same .serial) (s .serial);
         width = either (λ (key : List ℕ). length key ≡ keyBytes) (wipes (d .answer)) (length-replicate {A = ℕ} keyBytes 0) (s .width);
         filled =
-        rw (after .same .length)
-        (either (λ (key : List ℕ). allZero (drop (t .row .length) key) ≡ true) (wipes (d .answer))
-        (rw (drop-zeros (t .row .length) keyBytes) (zeros-are-zero (keyBytes - t .row .length))) (s .filled));
+            rw (after .same .length)
+            (either (λ (key : List ℕ). allZero (drop (t .row .length) key) ≡ true) (wipes (d .answer))
+            (rw (drop-zeros (t .row .length) keyBytes) (zeros-are-zero (keyBytes - t .row .length))) (s .filled));
       }
 
   served-sane : (serial : ℕ) (ts : List Token) → AllSane ts → AllSane (servedAmong passwords request serial clock ts .tokens)

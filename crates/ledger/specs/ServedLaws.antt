@@ -3,14 +3,12 @@ use Prim.Native.Nat.{ℕ, _^_, _<_}
 use mathlib.Core.Path.{_≡_, refl}
 use mathlib.Core.Bool.{Bool, false}
 use mathlib.Core.List.{List, []}
-use native.Mathlib.Omega.{arith}
-
 use lib.Dec.{leb}
 use lib.ListN.{take}
 use Rattle.window.specs.declared.Size.{Size}
 use Rattle.window.specs.declared.Track.{Track}
 use Rattle.window.specs.declared.Outcome.{Outcome}
-use Rattle.window.specs.Window.{candidate, beyond}
+use Rattle.window.specs.Window.{beyond}
 use Rattle.window.specs.PasswordAt.{PasswordRule, hasBy}
 use Rattle.window.specs.TokenCheck.{tooFar, singleCheck, pairCheck}
 use Rattle.window.specs.Meaning.{candidate-bounded, candidate-near, single-accepts-candidate, pair-accepts-candidate}
@@ -18,9 +16,9 @@ use Rattle.row.specs.declared.Row.{Row}
 use Rattle.token.specs.declared.calls.Call.{Call}
 use Rattle.token.specs.declared.calls.Checking.{Checking}
 use Rattle.token.specs.declared.serving.Served.{Served}
-use Rattle.token.specs.Calls.{allowed, checkingOf, stateRefusal}
+use Rattle.token.specs.Calls.{allowed, checkingOf}
 use Rattle.token.specs.States.{waited}
-use Rattle.token.specs.Serving.{refusing, judging, timely, checking, permitted, serving, served}
+use Rattle.token.specs.Serving.{judging, timely, checking, permitted, serving, served}
 use Rattle.desk.specs.Requests.{Request}
 use Rattle.desk.specs.Desk.{syncCall}
 use Rattle.ledger.specs.Tokens.{Token, requestedToken}

@@ -1,7 +1,7 @@
 -- A row that stands in a table between other bytes: what is read of it, and what storing and wiping leave.
-use Prim.Native.Nat.{ℕ, _+_, _<_, _≤_}
-use mathlib.Core.Path.{_≡_, refl, sym, ap, _∙_}
-use mathlib.Core.Bool.{true, false, not, _&&_}
+use Prim.Native.Nat.{ℕ, _+_, _<_}
+use mathlib.Core.Path.{_≡_, sym, ap, _∙_}
+use mathlib.Core.Bool.{true, false}
 use mathlib.Core.List.{List, _++_, append-assoc}
 use native.Mathlib.Omega.{arith}
 use borrow.Author.Tests.{ne-eqb}
@@ -11,7 +11,6 @@ use lib.Seq.{take-at, drop-at, drop-drop, take-take}
 use Rattle.words.specs.Lists.{allZero}
 use Rattle.words.specs.Bytes.{beAt, beBytes, putBe}
 use Rattle.words.specs.BytesLaws.{set-behind, putBe-behind}
-use Rattle.window.specs.WindowLaws.{and-both}
 use Rattle.row.specs.declared.Row.{Row}
 use Rattle.row.specs.Row.{keyBytes, rowAt, keyAt, beforeKey, stepBytes, timeBytes, render, numbersOk, zerosOk, wellFormed}
 use Rattle.row.specs.RowLaws.{InWidths, numbers-parsed, key-parsed, length-in-range}
