@@ -3,6 +3,7 @@ pub mod Ledger
 pub mod Promise
 pub mod Tokens
 pub mod Branches
+pub mod Ranges
 pub mod RangeLaws
 pub mod ServedLaws
 pub mod SaneLaws

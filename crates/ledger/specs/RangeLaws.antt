@@ -1,4 +1,4 @@
--- Part 4's list of ranges as named facts, and what keeps them when a call changes a row's numbers.
+-- A row's numbers are in range exactly if they pass Part 4's tests, and each change that a call makes keeps them so.
 use Prim.Native.Nat.{ℕ, _+_, _-_, _*_, _^_, _≤_, _<_}
 use mathlib.Core.Path.{_≡_, refl, _∙_}
 use mathlib.Core.Bool.{Bool, true, false, _&&_, _||_, not, cond}
@@ -14,40 +14,13 @@ use Rattle.window.specs.Window.{timeToken, stepAt, distance, farthest, beyond}
 use Rattle.window.specs.WindowLaws.{and-both}
 use Rattle.window.specs.TokenCheck.{tooFar}
 use Rattle.row.specs.declared.Row.{Row}
-use Rattle.row.specs.Row.{keyBytes, isTime, numberTests, numbersOk}
+use Rattle.row.specs.Row.{numberTests, numbersOk}
 use Rattle.row.specs.RowLaws.{InWidths, row-sound}
-use Rattle.row.specs.TableLaws.{SameParticulars}
 use Rattle.token.specs.declared.calls.Call.{Call}
 use Rattle.token.specs.Calls.{ready, lockedByErrors, stateAfter}
 use Rattle.token.specs.States.{changed, waitOver, waited, lockedAfter, moved, trackAfter, accepted, errorsAfter, locksOut, failed}
 use Rattle.ledger.specs.Branches.{either}
-
--- the largest that `next` may be, and whether d + 600 is in range
-abbrev lastNext : Track → ℕ
-lastNext k = cond (eqb (k .rule .kind) timeToken) (2 ^ 40 + farthest) (2 ^ 32)
-
-abbrev offsetOk : Track → Bool
-offsetOk k = cond (eqb (k .rule .kind) timeToken) (leb (k .offset .0) (2 * farthest)) (eqb (k .offset .0) farthest)
-
--- below 2^40, 0 unless state 3
-abbrev lockedOk : ℕ → ℕ → Bool
-lockedOk state locked = ltb locked (2 ^ 40) && (eqb state lockedByErrors || eqb locked 0)
-
--- the tests of Part 4, by name
-pub record InRanges (r : Row) : Type 0 where
-  pub state : leb (r .state) 6 ≡ true
-  pub kind : leb (r .track .rule .kind) 1 ≡ true
-  pub algorithm : eqb (r .track .rule .algorithm) 3 || eqb (r .track .rule .algorithm) 4 ≡ true
-  pub digits : leb 6 (r .track .rule .digits) && leb (r .track .rule .digits) 10 ≡ true
-  pub period : cond (isTime r) (leb 1 (r .track .period) && leb (r .track .period) 60) (eqb (r .track .period) 0) ≡ true
-  pub limit : leb 1 (r .limit) && leb (r .limit) 10 ≡ true
-  pub length : leb 16 (r .length) && leb (r .length) keyBytes ≡ true
-  pub next : leb (r .track .next .0) (lastNext (r .track)) ≡ true
-  pub offset : offsetOk (r .track) ≡ true
-  pub wait : leb 60 (r .wait) && leb (r .wait) 86400 ≡ true
-  pub expiry : leb (r .expiry .0) (2 ^ 40) ≡ true
-  pub locked : lockedOk (r .state) (r .locked .0) ≡ true
-  pub used : ltb (r .used .0) (2 ^ 40) ≡ true
+use Rattle.ledger.specs.Ranges.{lastNext, offsetOk, lockedOk, InRanges, Live, Leaves}
 
 module _ (r : Row) where
   pub numbers-in-ranges : numbersOk r ≡ true → InRanges r
@@ -84,16 +57,6 @@ ranges-fit r w h =
     record { serial = h; next = omega arith; offset = omega arith; wait = omega arith; expiry = omega arith; locked = omega arith; used = omega arith }
 
 -- ---- a row with other values of what calls change
-
--- a row in range that is not empty
-pub record Live (r : Row) : Type 0 where
-  pub ranges : InRanges r
-  pub taken : 0 < r .state
-
--- the row that a call leaves in place of r
-pub record Leaves (r x : Row) : Type 0 where
-  pub same : SameParticulars x r
-  pub live : Live x
 
 pub leaves-itself : (r : Row) → Live r → Leaves r r
 leaves-itself r l = record { same = record { rule = refl; period = refl; limit = refl; length = refl; serial = refl; wait = refl; expiry = refl }; live = l }

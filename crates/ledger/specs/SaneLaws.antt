@@ -20,7 +20,8 @@ use Rattle.desk.specs.declared.particulars.Particulars.{Particulars}
 use Rattle.desk.specs.Requests.{Request, DeskCall, clockOk, requestOk, loadedRow, loadOk}
 use Rattle.ledger.specs.Tokens.{Token, Held, kept, requestedToken, servedAmong, hasToken, tokensAfter, Sane, AllSane}
 use Rattle.ledger.specs.Branches.{either, either-by}
-use Rattle.ledger.specs.RangeLaws.{Live, numbers-in-ranges, ranges-ok}
+use Rattle.ledger.specs.Ranges.{Live}
+use Rattle.ledger.specs.RangeLaws.{numbers-in-ranges, ranges-ok}
 use Rattle.ledger.specs.ServedLaws.{requested-leaves}
 
 -- the serial of a load has 8 bytes
@@ -39,7 +40,7 @@ zeros-are-zero (suc n) = zeros-are-zero n
 -- ---- a request
 
 module _ (passwords : PasswordRule) (request : Request) (clock : ℕ) (h : clock < 2 ^ 40) where
-  pub kept-sane : (t : Token) → Sane t → Sane (kept t (requestedToken passwords request clock t))
+  kept-sane : (t : Token) → Sane t → Sane (kept t (requestedToken passwords request clock t))
   kept-sane t s =
       let d = requestedToken passwords request clock t in
       let after = requested-leaves passwords request clock h t (sane-live s) in
@@ -70,14 +71,14 @@ length-served passwords request clock serial (t ∷ ts) =
 -- ---- a load
 
 module _ (p : Particulars) (key : List ℕ) (ok : loadOk p key ≡ true) where
-  pub key-fits : length key ≤ keyBytes
+  key-fits : length key ≤ keyBytes
   unfolding loadOk
   key-fits = length-in-range (loadedRow p key) ok .1
 
   pub length-zero-filled : length (zeroFilled key) ≡ keyBytes
   length-zero-filled = let f = key-fits in rw (length-append, length-replicate {A = ℕ} (keyBytes - length key) 0) (omega arith)
 
-  pub loaded-sane : p .serial < 2 ^ 64 → Sane (record { row = loadedRow p key; key = zeroFilled key })
+  loaded-sane : p .serial < 2 ^ 64 → Sane (record { row = loadedRow p key; key = zeroFilled key })
   unfolding loadOk
   loaded-sane h =
       record {

@@ -23,7 +23,8 @@ use Rattle.desk.specs.Requests.{Request}
 use Rattle.desk.specs.Desk.{syncCall}
 use Rattle.ledger.specs.Tokens.{Token, requestedToken}
 use Rattle.ledger.specs.Branches.{either}
-use Rattle.ledger.specs.RangeLaws.{Live, Leaves, leaves-itself, leaves-next, waited-leaves, moved-leaves, failed-leaves, accepted-leaves}
+use Rattle.ledger.specs.Ranges.{Live, Leaves}
+use Rattle.ledger.specs.RangeLaws.{leaves-itself, leaves-next, waited-leaves, moved-leaves, failed-leaves, accepted-leaves}
 
 -- an accepted step is below the end of all candidates, and sets d at most 600 either way
 abbrev Fits : Track → ℕ → Outcome → Type 0

@@ -38,7 +38,7 @@ module _ (s : List ℕ) (at : ℕ) (r : Row) (key before behind : List ℕ) (sta
 
   -- ---- what is read
 
-  pub key-read : keyAt s at ≡ key
+  key-read : keyAt s at ≡ key
   key-read = key-parsed s at r key behind row-here long
 
   gap-here : take 2 (drop (at + 58) s) ≡ replicate 2 0
