@@ -17,6 +17,7 @@ use Rattle.token.specs.declared.answers.Refusal.{Refusal}
 use Rattle.token.specs.declared.answers.Answer.{Answer}
 use Rattle.token.specs.Codes.{successNumber, refusalNumber, numberOf}
 use Rattle.desk.specs.Requests.{Request, DeskCall}
+use Rattle.ledger.specs.Branches.{either}
 use Rattle.ledger.specs.Ledger.{Loaded, Reading, oneOf, entered, needing, judgedBy, unexpired, requested}
 use Rattle.ledger.specs.FreshLaws.{FreshIfAccepted, single-fresh, pair-fresh}
 
@@ -26,10 +27,6 @@ StepFrom next (Answer.Success call (Content.Checked step d)) = next ≤ step .0
 StepFrom next (Answer.Success call Content.Plain) = Unit {0}
 StepFrom next (Answer.Success call (Content.Told status)) = Unit {0}
 StepFrom next (Answer.Refused refusal) = Unit {0}
-
-pub either : {A : Type 0} (P : A → Type 0) (b : Bool) {x y : A} → P x → P y → P (cond b x y)
-either P true p q = p
-either P false p q = q
 
 module _ (l : Loaded) (next serial clock : ℕ) (request : Request) where
   -- of an answer to the request: a step in it is fresh, and if it is 010a, then it leaves the token void

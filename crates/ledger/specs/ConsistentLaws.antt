@@ -15,7 +15,7 @@ use Rattle.token.specs.declared.answers.Content.{Content}
 use Rattle.token.specs.declared.answers.Refusal.{Refusal}
 use Rattle.token.specs.declared.answers.Answer.{Answer}
 use Rattle.token.specs.Codes.{refusalNumber}
-use Rattle.desk.specs.declared.particulars.Particulars.{Particulars}
+use Rattle.desk.specs.declared.Particulars.{Particulars}
 use Rattle.desk.specs.Requests.{Request, DeskCall, clockOk, requestOk, loadOk}
 use Rattle.ledger.specs.Ledger.{Entry, Loaded, loads, loadOf, nextOf, offsetOf, usedOf, requestedOf, loadedOf, answerTo}
 use Rattle.ledger.specs.Described.{withEntry, Unread, Consistent}

@@ -16,7 +16,7 @@ use Rattle.token.specs.declared.answers.Content.{Content}
 use Rattle.token.specs.declared.answers.Refusal.{Refusal}
 use Rattle.token.specs.declared.answers.Answer.{Answer}
 use Rattle.token.specs.Codes.{refusalNumber}
-use Rattle.desk.specs.declared.particulars.Particulars.{Particulars}
+use Rattle.desk.specs.declared.Particulars.{Particulars}
 use Rattle.desk.specs.Requests.{Request, DeskCall, clockOk, requestOk, loadedRow, loadOk}
 use Rattle.ledger.specs.Ledger.{Entry, Loaded, Reading, names, loads, loadOf, entered, reading, nextOf, offsetOf, usedOf, requestedOf, loadedOf, answerTo, rowOf, keyOf, rowsOf, tableOf}
 use Rattle.ledger.specs.Tokens.{Token, Held, AllSane, servedAmong, hasToken, loadedAmong, tokensAfter, rendered, tableWith}

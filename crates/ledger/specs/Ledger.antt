@@ -1,6 +1,6 @@
 -- The ledger machine (document 01, "The ledger machine"): it is fed the number of rows and the calls, and keeps the list of earlier calls with
 -- the answers that it gave itself. No byte of the desk's table is known to it.
-use Prim.Native.Nat.{ℕ, _+_, _-_, _*_, min, max}
+use Prim.Native.Nat.{ℕ, _+_, _-_, _*_, _/_, min, max}
 use mathlib.Core.Bool.{Bool, true, false, _&&_, _||_, not, cond}
 use mathlib.Core.List.{List, [], _∷_, _++_}
 use mathlib.Core.Option.{Option, none, some}
@@ -10,7 +10,7 @@ use Rattle.window.specs.declared.Size.the-variants.{Small, Medium, Large}
 use Rattle.window.specs.declared.Offset.{Offset}
 use Rattle.window.specs.declared.Track.{Track}
 use Rattle.window.specs.declared.Outcome.{Outcome}
-use Rattle.window.specs.Window.{farthest}
+use Rattle.window.specs.Window.{timeToken, farthest}
 use Rattle.window.specs.PasswordAt.{PasswordRule, hasBy}
 use Rattle.window.specs.TokenCheck.{singleCheck, pairCheck}
 use Rattle.row.specs.declared.Row.{Row}
@@ -21,7 +21,6 @@ use Rattle.token.specs.declared.answers.Content.{Content}
 use Rattle.token.specs.declared.answers.Refusal.{Refusal}
 use Rattle.token.specs.declared.answers.Answer.{Answer}
 use Rattle.token.specs.Codes.{numberOf}
-use Rattle.token.specs.States.{offsetAfter}
 use Rattle.desk.specs.declared.Particulars.{Particulars}
 use Rattle.desk.specs.Requests.{Request, DeskCall, clockOk, requestOk, loadOk}
 use Rattle.desk.specs.Desk.{Run, preceded}
@@ -188,9 +187,13 @@ needing states state answer =
     (cond (eqb state 5) Refusal.Suspended
     (cond (eqb state 1) Refusal.Inactive Refusal.Void)))))
 
+-- d = a - T for a time token; an event token keeps its d
+abbrev pub offsetWith : Track → ℕ → ℕ → Offset
+offsetWith k clock a = record { 0 = cond (eqb (k .rule .kind) timeToken) (farthest + a - clock / k .period) (k .offset .0) }
+
 -- a check's outcome: the success with step and d, 8106, used or wrong
 abbrev pub judgedBy : Call → Refusal → Refusal → Track → ℕ → Outcome → Answer
-judgedBy call used wrong k clock (Outcome.Accepted a) = Answer.Success call (Content.Checked a (offsetAfter k clock (a .0)))
+judgedBy call used wrong k clock (Outcome.Accepted a) = Answer.Success call (Content.Checked a (offsetWith k clock (a .0)))
 judgedBy call used wrong k clock Outcome.TooFar = Answer.Refused Refusal.TooFar
 judgedBy call used wrong k clock Outcome.Used = Answer.Refused used
 judgedBy call used wrong k clock Outcome.Wrong = Answer.Refused wrong

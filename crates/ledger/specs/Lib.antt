@@ -1,16 +1,30 @@
--- The ledger machine (a term of document 01), and the buyer's third demand.
-pub mod AnswerLaws
-pub mod ConsistentLaws
+-- The ledger machine (a term of document 01) and the buyer's third demand: the definitions, the claims, their proofs, and the steps to them.
+pub mod Ledger
+pub mod Promise
+pub mod Proved
+-- the desk on tokens in place of bytes
+pub mod Tokens
+pub mod Branches
+pub mod Ranges
+pub mod RangeLaws
+pub mod ServedLaws
+pub mod SaneLaws
+-- the table's bytes and the tokens
+pub mod StandingLaws
+pub mod RequestAtLaws
+pub mod RenderedLaws
+pub mod BytesStep
+pub mod OtherRows
+-- the tokens and the history
 pub mod Described
 pub mod Entering
 pub mod FreshLaws
-pub mod HistoryLaws
-pub mod Ledger
-pub mod LoadsLaws
 pub mod OneTokenLaws
-pub mod Promise
 pub mod RequestLaws
-pub mod StepsLaws
 pub mod TokenLaws
-pub mod Tokens
+pub mod LoadsLaws
+pub mod AnswerLaws
+pub mod ConsistentLaws
+pub mod HistoryLaws
+pub mod StepsLaws
 pub mod VoidLaws

@@ -1,6 +1,6 @@
 -- A call does with one token what the ledger machine enters, part by part: refusals by state, expiry and the outcome of a check.
-use Prim.Native.Nat.{ℕ, zero, suc, _+_, _-_, min, max, _≤_, _<_}
-use mathlib.Core.Path.{_≡_, refl, sym, _∙_}
+use Prim.Native.Nat.{ℕ, zero, suc, _+_, _-_, _/_, min, max, _≤_, _<_}
+use mathlib.Core.Path.{_≡_, refl, sym, ap, _∙_}
 use mathlib.Core.Bool.{Bool, true, false, _&&_, not, cond}
 use mathlib.Core.List.{List, [], _∷_}
 use native.Mathlib.Omega.{arith}
@@ -11,7 +11,9 @@ use Rattle.words.specs.Tables.{every, and-left, and-right, entry-rule}
 use Rattle.window.specs.declared.Seconds.{Seconds}
 use Rattle.window.specs.declared.Step.{Step}
 use Rattle.window.specs.declared.Offset.{Offset}
+use Rattle.window.specs.declared.Track.{Track}
 use Rattle.window.specs.declared.Outcome.{Outcome}
+use Rattle.window.specs.Window.{timeToken, farthest}
 use Rattle.row.specs.declared.Row.{Row}
 use Rattle.token.specs.declared.calls.Call.{Call}
 use Rattle.token.specs.declared.answers.Content.{Content}
@@ -21,10 +23,10 @@ use Rattle.token.specs.declared.serving.Served.{Served}
 use Rattle.token.specs.Calls.{allowed, stateAfter, isVoid, usedRefusal, wrongRefusal, stateRefusal}
 use Rattle.token.specs.Calls as calls
 use Rattle.token.specs.Codes.{successNumber, refusalNumber}
-use Rattle.token.specs.States.{waitOver, waited, moved, accepted, failed}
+use Rattle.token.specs.States.{waitOver, waited, moved, offsetAfter, accepted, failed}
 use Rattle.token.specs.Serving.{refusing, judging, timely}
 use Rattle.desk.specs.Requests.{Request}
-use Rattle.ledger.specs.Ledger.{Loaded, Reading, oneOf, runOut, follows, isLogin, isQuery, needing, judgedBy, unexpired}
+use Rattle.ledger.specs.Ledger.{Loaded, Reading, oneOf, runOut, follows, isLogin, isQuery, needing, offsetWith, judgedBy, unexpired}
 use Rattle.ledger.specs.FreshLaws.{FreshIfAccepted}
 use Rattle.ledger.specs.Entering.{rowWith, Agrees}
 
@@ -114,6 +116,16 @@ seconds-either : (b : Bool) (m n : ℕ) → _≡_ {A = Seconds} (cond b (record 
 seconds-either true m n = refl
 seconds-either false m n = refl
 
+offset-either : (b : Bool) (m : ℕ) (d : Offset) → _≡_ {A = Offset} (cond b (record { 0 = m }) d) (record { 0 = cond b m (d .0) })
+offset-either true m d = refl
+offset-either false m d = refl
+
+-- d of an accepted step, as the row and as the ledger has it
+offset-alike : (k : Track) (clock a : ℕ) → offsetAfter k clock a ≡ offsetWith k clock a
+offset-alike k clock a =
+    let e : a + farthest - clock / k .period ≡ farthest + a - clock / k .period = omega arith in
+    offset-either (eqb (k .rule .kind) timeToken) (a + farthest - clock / k .period) (k .offset) ∙ rw e
+
 either-itself : (b : Bool) → b ≡ cond b true false
 either-itself true = refl
 either-itself false = refl
@@ -172,9 +184,10 @@ module _ (l : Loaded) (x y : Reading) (next : ℕ) (d : Offset) (used clock : �
       unfolding accepted moved
       accepted-agrees used wrong a h =
           let e : max (a .0 + 1) next ≡ a .0 + 1 = omega arith in
+          let o = offset-alike (here .track) clock (a .0) in
           record {
-            answer = refl;
-            row = rw (makes .asked, makes .numbered, makes .leaves (y .state), e, seconds-either _ 0 (y .locked));
+            answer = ap (λ (x : Offset). Answer.Success call (Content.Checked a x)) o;
+            row = rw (o, makes .asked, makes .numbered, makes .leaves (y .state), e, seconds-either _ 0 (y .locked));
             zeroed = rw (makes .asked, makes .numbered, leaves-void request call needs makes (y .state) m made, alive request call needs makes (y .state) m made) (either-itself (isVoid call));
           }
 

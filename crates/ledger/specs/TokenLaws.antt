@@ -18,7 +18,7 @@ use Rattle.token.specs.declared.answers.Refusal.{Refusal}
 use Rattle.token.specs.declared.answers.Answer.{Answer}
 use Rattle.token.specs.declared.serving.Served.{Served}
 use Rattle.token.specs.OnTable.{wipes}
-use Rattle.desk.specs.declared.particulars.Particulars.{Particulars}
+use Rattle.desk.specs.declared.Particulars.{Particulars}
 use Rattle.desk.specs.Requests.{Request, DeskCall}
 use Rattle.ledger.specs.Ledger.{Entry, Loaded, Reading, names, nextOf, offsetOf, usedOf, pastStep, atChecked, runOut, isQuery, entered, reading, trackOf, requested, rowOf, keyOf}
 use Rattle.ledger.specs.Tokens.{Token, Sane, kept, requestedToken}

@@ -15,12 +15,13 @@ use Rattle.window.specs.PasswordAt.{PasswordRule}
 use Rattle.token.specs.declared.answers.Answer.{Answer}
 use Rattle.token.specs.Codes.{numberOf}
 use Rattle.desk.specs.Requests.{Request, DeskCall, clockOk, requestOk, loadOk}
+use Rattle.ledger.specs.Branches.{either}
 use Rattle.ledger.specs.Ledger.{Entry, Loaded, Reading, names, loads, loadIn, loadOf, usedOf, oneOf, runOut, isQuery, entered, reading, needing, trackOf, requested, requestedOf, loadedOf, answerTo, ledgerFrom, ledger}
 use Rattle.ledger.specs.Promise.{stepIn, acceptedSteps, NothingAfterVoid}
 use Rattle.ledger.specs.Described.{withEntry}
 use Rattle.ledger.specs.LoadsLaws.{found-serial, found-behind}
 use Rattle.ledger.specs.TokenLaws.{run-out-void, bad-argument-enters}
-use Rattle.ledger.specs.AnswerLaws.{either, request-fits}
+use Rattle.ledger.specs.AnswerLaws.{request-fits}
 
 -- the serial is loaded, and its state reads void
 pub record Voided (serial : ℕ) (history : List Entry) : Type 0 where
