@@ -3,3 +3,4 @@ pub mod Requests
 pub mod Desk
 pub mod ArgumentsLaws
 pub mod DeskLaws
+pub mod LoadLaws

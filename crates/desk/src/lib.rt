@@ -1,6 +1,7 @@
 // The desk over a lent table of tokens (document 01, Part 5): eleven calls, each with the answer and every byte of the table by an equation.
 mod arguments;
 mod checked_calls;
+mod loading;
 mod naming;
 mod plain_calls;
 
@@ -10,6 +11,7 @@ pub use checked_calls::login;
 pub use checked_calls::resume;
 pub use checked_calls::sync;
 pub use checked_calls::unlock;
+pub use loading::load;
 pub use naming::query;
 pub use plain_calls::lock;
 pub use plain_calls::suspend;

@@ -4,6 +4,7 @@ mod ranges;
 mod reading;
 mod storing;
 
+pub use ranges::numbers_ok;
 pub use reading::Place;
 pub use reading::RowRead;
 pub use reading::find_empty;

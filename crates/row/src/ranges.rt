@@ -39,7 +39,7 @@ fn offset_ok(timed: bool, offset: u64) -> bool
 }
 
 // Whether the numbers are in Part 4's ranges, in its order.
-pub(crate) fn numbers_ok(row: Row) -> bool
+pub fn numbers_ok(row: Row) -> bool
     ensures { λ r. ⌜ r ≡ numbersOk row ⌝ }
 {
     let rule = row.track.rule;
