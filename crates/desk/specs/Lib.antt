@@ -1,3 +1,4 @@
 -- The desk: its calls, and what each says and leaves in the table.
 pub mod Requests
 pub mod Desk
+pub mod Promise
