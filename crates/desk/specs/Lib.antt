@@ -2,3 +2,5 @@
 pub mod Requests
 pub mod Desk
 pub mod Promise
+pub mod Branches
+pub mod Demand1Laws

@@ -65,11 +65,18 @@ abbrev pub atPlace : List ℕ → Place → (ℕ → List ℕ) → List ℕ
 atPlace s (Place.At at) written = written at
 atPlace s Place.Nowhere written = s
 
--- the column "Left in the table": only a wait run out; or errors + 1, with the lock; else unchanged
+-- the column "Left in the table": the codes that leave only a wait run out, and those that add an error
+abbrev pub waitCodes : List ℕ
+waitCodes = 0x8409 ∷ 0x8404 ∷ 0x8405 ∷ 0x8406 ∷ 0x8407 ∷ 0x8408 ∷ 0x8106 ∷ []
+
+abbrev pub errorCodes : List ℕ
+errorCodes = 0x8004 ∷ 0x8104 ∷ 0x8002 ∷ 0x8102 ∷ 0x8105 ∷ []
+
+-- only a wait run out; or errors + 1, with the lock; else unchanged
 abbrev pub refusedBytes : Request → ℕ → List ℕ → ℕ → ℕ → List ℕ
 refusedBytes request clock s at code =
-    cond (oneOf code (0x8409 ∷ 0x8404 ∷ 0x8405 ∷ 0x8406 ∷ 0x8407 ∷ 0x8408 ∷ 0x8106 ∷ [])) (storeRow s at (waited (rowAt s at) clock))
-    (cond (oneOf code (0x8004 ∷ 0x8104 ∷ 0x8002 ∷ 0x8102 ∷ 0x8105 ∷ [])) (storeRow s at (failed (nameOf request) (waited (rowAt s at) clock) clock)) s)
+    cond (oneOf code waitCodes) (storeRow s at (waited (rowAt s at) clock))
+    (cond (oneOf code errorCodes) (storeRow s at (failed (nameOf request) (waited (rowAt s at) clock) clock)) s)
 
 -- the column "Success, and what follows": an accepted step marks the row; only a void zeroes the key; a query writes nothing
 abbrev pub successBytes : Request → ℕ → List ℕ → ℕ → Content → List ℕ
