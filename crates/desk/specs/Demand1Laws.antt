@@ -8,7 +8,6 @@ use borrow.Author.Tests.{leb-true, not-true}
 use lib.Dec.{eqb, leb}
 use lib.ListN.{getD, replicate}
 use Rattle.words.specs.Bytes.{beAt}
-use Rattle.words.specs.ListsLaws.{by-test}
 use Rattle.words.specs.Tables.{every, and-left, and-right, entry-rule}
 use Rattle.window.specs.declared.Size.{Size}
 use Rattle.window.specs.declared.Track.{Track}
@@ -17,7 +16,7 @@ use Rattle.window.specs.PasswordAt.{PasswordRule, hasBy}
 use Rattle.window.specs.TokenCheck.{singleCheck, pairCheck}
 use Rattle.row.specs.declared.Row.{Row}
 use Rattle.row.specs.declared.reading.Place.{Place}
-use Rattle.row.specs.Row.{rowAt, allOf, numberTests, numbersOk, wellFormed}
+use Rattle.row.specs.Row.{rowAt, numberTests, numbersOk, wellFormed}
 use Rattle.row.specs.Table.{isEmpty, hasSerial, findRow, findEmpty}
 use Rattle.row.specs.TableLaws.{found-has}
 use Rattle.token.specs.declared.calls.Call.{Call}
@@ -25,7 +24,7 @@ use Rattle.token.specs.declared.calls.Checking.{Checking}
 use Rattle.token.specs.declared.answers.Refusal.{Refusal}
 use Rattle.token.specs.declared.answers.Answer.{Answer}
 use Rattle.token.specs.declared.serving.Served.{Served}
-use Rattle.token.specs.Calls.{empty, ready, allowed, checkingOf, isVoid, usedRefusal, wrongRefusal, stateRefusal}
+use Rattle.token.specs.Calls.{empty, allowed, checkingOf, isVoid, usedRefusal, wrongRefusal, stateRefusal}
 use Rattle.token.specs.Codes.{successNumber, refusalNumber, numberOf}
 use Rattle.token.specs.States.{waitOver, waited, failed}
 use Rattle.token.specs.Serving.{refusing, judging, timely, checking, permitted, serving, served, querying}
@@ -64,13 +63,13 @@ checkListed request call Checking.Nothing = true
 checkListed request call (Checking.Single size) = checkedListed request call
 checkListed request call (Checking.Pair size) = checkedListed request call
 
-record Listed (request : Request) (call : Call) : Type 0 where
+record CodesListed (request : Request) (call : Call) : Type 0 where
   success : listed request (successNumber call) ≡ true
   wipes : isVoid call ≡ eqb (successNumber call) 0x010a
   states : every (λ state entry. stateListed request call state) 0 (replicate 7 0) ≡ true
   check : checkListed request call (checkingOf call) ≡ true
 
-request-listed : (request : Request) → Listed request (nameOf request)
+request-listed : (request : Request) → CodesListed request (nameOf request)
 request-listed (Request.login password) = record { success = refl; wipes = refl; states = refl; check = refl }
 request-listed (Request.challengeLogin challenge password) = record { success = refl; wipes = refl; states = refl; check = refl }
 request-listed (Request.activate password following) = record { success = refl; wipes = refl; states = refl; check = refl }
@@ -79,7 +78,7 @@ request-listed (Request.unlock password) = record { success = refl; wipes = refl
 request-listed Request.suspend = record { success = refl; wipes = refl; states = refl; check = refl }
 request-listed (Request.resume password) = record { success = refl; wipes = refl; states = refl; check = refl }
 request-listed (Request.sync choice password following) =
-    either (Listed (Request.sync choice password following)) (eqb choice 1)
+    either (CodesListed (Request.sync choice password following)) (eqb choice 1)
     (record { success = refl; wipes = refl; states = refl; check = refl })
     (record { success = refl; wipes = refl; states = refl; check = refl })
 request-listed Request.void = record { success = refl; wipes = refl; states = refl; check = refl }
@@ -128,7 +127,7 @@ module _ (request : Request) (clock : ℕ) (s : List ℕ) (at : ℕ) where
       let e = and-right (not (oneOf code waitCodes)) (oneOf code errorCodes) both in
       (and-left (listed request code) (not (oneOf code waitCodes) && oneOf code errorCodes) t, rw (w, e))
 
-  module _ (l : Listed request (nameOf request)) where
+  module _ (l : CodesListed request (nameOf request)) where
     module _ (t : checkedListed request (nameOf request) ≡ true) where
       judging-fits : (o : Outcome) → Fits (stored s at (judging (nameOf request) row clock o))
       judging-fits (Outcome.Accepted a) = let v : isVoid (nameOf request) ≡ false = search (and-left, and-right, not-true) depth 6 in (l .success, rw v)
@@ -187,34 +186,34 @@ requested-fits passwords request clock s at h = by-request request
 
 -- ---- the calls
 
-abbrev Keeps : DeskCall → List ℕ → Result → Type 0
-Keeps call s x = (oneOf (numberOf (x .answer)) (codesOf call) ≡ true) × (x .table ≡ bytesFor call s (x .answer))
+abbrev Meets : DeskCall → List ℕ → Result → Type 0
+Meets call s x = (oneOf (numberOf (x .answer)) (codesOf call) ≡ true) × (x .table ≡ bytesFor call s (x .answer))
 
 unchanged-anywhere : (s : List ℕ) (place : Place) → s ≡ atPlace s place (λ at. s)
 unchanged-anywhere s (Place.At at) = refl
 unchanged-anywhere s Place.Nowhere = refl
 
 module _ (passwords : PasswordRule) (s : List ℕ) where
-  named-keeps : (request : Request) (serial clock : ℕ) (place : Place) → findRow s serial ≡ place
-      → Keeps (DeskCall.named request serial clock) s (requestedOf passwords request clock s place)
-  named-keeps request serial clock (Place.At at) e = rw e (requested-fits passwords request clock s at (found-standing s serial at e))
-  named-keeps request serial clock Place.Nowhere e = rw e (refl, refl)
+  named-meets : (request : Request) (serial clock : ℕ) (place : Place) → findRow s serial ≡ place
+      → Meets (DeskCall.named request serial clock) s (requestedOf passwords request clock s place)
+  named-meets request serial clock (Place.At at) e = rw e (requested-fits passwords request clock s at (found-standing s serial at e))
+  named-meets request serial clock Place.Nowhere e = rw e (refl, refl)
 
-  load-keeps : (p : Particulars) (key : List ℕ) (place : Place) → findEmpty s ≡ place → Keeps (DeskCall.load p key) s (loadedAt p key s place)
-  load-keeps p key (Place.At at) e = rw e (refl, refl)
-  load-keeps p key Place.Nowhere e = (refl, refl)
+  load-meets : (p : Particulars) (key : List ℕ) (place : Place) → findEmpty s ≡ place → Meets (DeskCall.load p key) s (loadedAt p key s place)
+  load-meets p key (Place.At at) e = rw e (refl, refl)
+  load-meets p key Place.Nowhere e = (refl, refl)
 
-  beside-keeps : (p : Particulars) (key : List ℕ) (place : Place) → Keeps (DeskCall.load p key) s (loadedBeside p key s place)
-  beside-keeps p key (Place.At other) = (refl, refl)
-  beside-keeps p key Place.Nowhere = load-keeps p key (findEmpty s) refl
+  beside-meets : (p : Particulars) (key : List ℕ) (place : Place) → Meets (DeskCall.load p key) s (loadedBeside p key s place)
+  beside-meets p key (Place.At other) = (refl, refl)
+  beside-meets p key Place.Nowhere = load-meets p key (findEmpty s) refl
 
-  desk-keeps : (call : DeskCall) → Keeps call s (deskAfter passwords call s)
+  desk-meets : (call : DeskCall) → Meets call s (deskAfter passwords call s)
   unfolding deskAfter
-  desk-keeps (DeskCall.load p key) =
-      either (Keeps (DeskCall.load p key) s) (tableOk s && loadOk p key) (beside-keeps p key (findRow s (p .serial))) (refl, refl)
-  desk-keeps (DeskCall.named request serial clock) =
-      either (Keeps (DeskCall.named request serial clock) s) (tableOk s && (clockOk clock && requestOk request))
-      (named-keeps request serial clock (findRow s serial) refl) (refl, unchanged-anywhere s (findRow s serial))
+  desk-meets (DeskCall.load p key) =
+      either (Meets (DeskCall.load p key) s) (tableOk s && loadOk p key) (beside-meets p key (findRow s (p .serial))) (refl, refl)
+  desk-meets (DeskCall.named request serial clock) =
+      either (Meets (DeskCall.named request serial clock) s) (tableOk s && (clockOk clock && requestOk request))
+      (named-meets request serial clock (findRow s serial) refl) (refl, unchanged-anywhere s (findRow s serial))
 
 pub demand-1 : Demand1
-demand-1 passwords call s = desk-keeps passwords s call
+demand-1 passwords call s = desk-meets passwords s call

@@ -4,3 +4,4 @@ pub mod Desk
 pub mod Promise
 pub mod Branches
 pub mod Demand1Laws
+pub mod Demand2Laws

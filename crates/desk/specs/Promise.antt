@@ -5,14 +5,11 @@ use mathlib.Core.Path.{_≡_}
 use mathlib.Core.Bool.{Bool, true, false, _&&_, _||_, cond}
 use mathlib.Core.List.{List, [], _∷_}
 use mathlib.Core.Option.{Option, none, some}
-use lib.Dec.{eqb, leb, ltb}
+use lib.Dec.{eqb}
 use Rattle.window.specs.declared.Size.{Size}
 use Rattle.window.specs.declared.Size.the-variants.{Small, Medium, Large}
-use Rattle.window.specs.declared.Step.{Step}
-use Rattle.window.specs.declared.Track.{Track}
 use Rattle.window.specs.Window.{candidate}
 use Rattle.window.specs.PasswordAt.{PasswordRule, hasBy}
-use Rattle.row.specs.declared.Row.{Row}
 use Rattle.row.specs.declared.reading.Place.{Place}
 use Rattle.row.specs.Row.{rowAt, wellFormed}
 use Rattle.row.specs.Table.{findRow, findEmpty, storeRow, wipeKey, writeRow}
