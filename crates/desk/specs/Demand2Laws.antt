@@ -163,7 +163,11 @@ module _ (call : Call) (row : Row) (clock : ℕ) (c : Checking) (codes : Coded c
 
 -- ---- a ready call is judged
 
--- a state that is one of a list passes a test that all of the list pass
+-- the call is made in the check's states
+abbrev made : Call → Checking → Bool
+made call c = every (λ i state. allowed call state) 0 (c .states)
+
+-- a number of a list passes a test that all of the list pass
 listed-passes : (test : ℕ → Bool) (xs : List ℕ) (i x : ℕ) → every (λ j y. test y) i xs ≡ true → oneOf x xs ≡ true → test x ≡ true
 listed-passes test [] i x t m = cc
 listed-passes test (y ∷ xs) i x t m =
@@ -178,3 +182,39 @@ module _ (passwords : PasswordRule) {request : Request} {c : Checking} {serial c
   asked : deskAfter passwords (DeskCall.named request serial clock) s ≡ requestedAt passwords request clock s at
   unfolding deskAfter
   asked = rw (ready .table, ready .timely, ready .arguments, ready .found)
+
+  -- the row once a wait has run out
+  abbrev row : Row
+  row = waited (rowAt s at) clock
+
+  -- what of a row's track matches
+  abbrev hits : Track → ℕ → Bool
+  hits k x = c .matches (λ challenge presented. hasBy passwords (k .rule) (secretAt s at) challenge presented) (candidate k clock (c .size)) x
+
+  module _ (call : Call) (challenge presented following : List ℕ) where
+    abbrev single : Track → Size → Outcome
+    single k size = singleCheck k clock size (hasBy passwords (k .rule) (secretAt s at) challenge presented)
+
+    abbrev pair : Track → Size → Outcome
+    pair k size =
+        pairCheck k clock size (hasBy passwords (k .rule) (secretAt s at) challenge presented) (hasBy passwords (k .rule) (secretAt s at) challenge following)
+
+    module _ (same : requestedAt passwords request clock s at ≡ servedAt passwords s at call clock challenge presented following)
+        (fit : fits call c && made call c ≡ true) where
+      permitted-judged : (o : Outcome) → checking call row clock single pair (checkingOf call) ≡ timely call row clock o
+          → permitted call row clock single pair ≡ judging call row clock o
+      permitted-judged o e =
+          let a = listed-passes (allowed call) (c .states) 0 (row .state) (and-right (fits call c) (made call c) fit) (ready .state) in
+          rw (a, e, waited-expiry (rowAt s at) clock, lt-leb (rowAt s at .expiry .0) clock (ready .unexpired))
+
+      answer-judged : (o : Outcome) → checking call row clock single pair (checkingOf call) ≡ timely call row clock o
+          → deskAfter passwords (DeskCall.named request serial clock) s .answer ≡ judging call row clock o .answer
+      unfolding servedAt served serving
+      answer-judged o e = rw (asked, same, ready .formed, permitted-judged o e)
+
+      ready-told : (o : Outcome) → checking call row clock single pair (checkingOf call) ≡ timely call row clock o
+          → Meant (hits (row .track)) (c .ahead) (row .track .next .0) o
+          → Told (deskAfter passwords (DeskCall.named request serial clock) s .answer) c (nextAt s at) (Hits passwords c clock s at)
+      ready-told o e meant =
+          subst (λ (k : Track). Told (deskAfter passwords (DeskCall.named request serial clock) s .answer) c (k .next .0) (hits k)) (waited-track (rowAt s at) clock)
+          (rw (answer-judged o e) (judged-told call row clock c (coded call c (and-left (fits call c) (made call c) fit)) (hits (row .track)) (row .track .next .0) o meant))
