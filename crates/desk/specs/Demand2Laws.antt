@@ -25,6 +25,7 @@ use Rattle.row.specs.declared.Row.{Row}
 use Rattle.row.specs.declared.reading.Place.{Place}
 use Rattle.row.specs.Row.{rowAt, wellFormed}
 use Rattle.token.specs.declared.calls.Call.{Call}
+use Rattle.token.specs.declared.calls.Checking.the-variants.{Single, Pair}
 use Rattle.token.specs.declared.answers.Refusal.{Refusal}
 use Rattle.token.specs.declared.answers.Answer.{Answer}
 use Rattle.token.specs.Calls.{allowed, checkingOf, usedRefusal, wrongRefusal}
@@ -35,7 +36,7 @@ use Rattle.token.specs.Serving.{judging, timely, checking, permitted, serving, 
 use Rattle.token.specs.OnTable.{secretAt, servedAt}
 use Rattle.desk.specs.Requests.{Request, DeskCall}
 use Rattle.desk.specs.Desk.{requestedAt, deskAfter}
-use Rattle.desk.specs.Promise.{oneOf, nameOf, Checking, Checks, Ready, Hits, nextAt, stepOf, Told, Demand2}
+use Rattle.desk.specs.Promise.{oneOf, nameOf, Checking, Checks, Ready, Hits, nextAt, alone, inRow, Told, Demand2, login, challengeLogin, activate, unlock, resume, syncMedium, syncLarge}
 use Rattle.desk.specs.Branches.{either}
 
 -- ---- an outcome that means what it says of hits
@@ -218,3 +219,47 @@ module _ (passwords : PasswordRule) {request : Request} {c : Checking} {serial c
       ready-told o e meant =
           subst (λ (k : Track). Told (deskAfter passwords (DeskCall.named request serial clock) s .answer) c (k .next .0) (hits k)) (waited-track (rowAt s at) clock)
           (rw (answer-judged o e) (judged-told call row clock c (coded call c (and-left (fits call c) (made call c) fit)) (hits (row .track)) (row .track .next .0) o meant))
+
+-- ---- the seven checked calls
+
+abbrev singly : List ℕ → Size → ℕ → ℕ → ℕ → List ℕ → List ℕ → Checking
+singly states size success used wrong challenge password =
+    record { states = states; size = size; success = success; used = used; wrong = wrong; ahead = 0; matches = alone challenge password }
+
+abbrev paired : List ℕ → Size → ℕ → ℕ → ℕ → List ℕ → List ℕ → Checking
+paired states size success used wrong password following =
+    record { states = states; size = size; success = success; used = used; wrong = wrong; ahead = 1; matches = inRow password following }
+
+module _ (passwords : PasswordRule) {request : Request} {states : List ℕ} {size : Size} {success used wrong serial clock : ℕ} {s : List ℕ} {at : ℕ} (call : Call) where
+  single-told : (challenge password : List ℕ) (ready : Ready request (singly states size success used wrong challenge password) serial clock s at)
+      → requestedAt passwords request clock s at ≡ servedAt passwords s at call clock challenge password []
+      → fits call (singly states size success used wrong challenge password) && made call (singly states size success used wrong challenge password) ≡ true
+      → checkingOf call ≡ Single size
+      → Told (deskAfter passwords (DeskCall.named request serial clock) s .answer) (singly states size success used wrong challenge password) (nextAt s at)
+      (Hits passwords (singly states size success used wrong challenge password) clock s at)
+  single-told challenge password ready same fit e =
+      let k = waited (rowAt s at) clock .track in
+      let matches = hasBy passwords (k .rule) (secretAt s at) challenge password in
+      ready-told passwords ready call challenge password [] same fit (singleCheck k clock size matches) (rw e) (single-meant k clock size matches)
+
+  pair-told : (password following : List ℕ) (ready : Ready request (paired states size success used wrong password following) serial clock s at)
+      → requestedAt passwords request clock s at ≡ servedAt passwords s at call clock [] password following
+      → fits call (paired states size success used wrong password following) && made call (paired states size success used wrong password following) ≡ true
+      → checkingOf call ≡ Pair size
+      → Told (deskAfter passwords (DeskCall.named request serial clock) s .answer) (paired states size success used wrong password following) (nextAt s at)
+      (Hits passwords (paired states size success used wrong password following) clock s at)
+  pair-told password following ready same fit e =
+      let k = waited (rowAt s at) clock .track in
+      let first = hasBy passwords (k .rule) (secretAt s at) [] password in
+      let second = hasBy passwords (k .rule) (secretAt s at) [] following in
+      ready-told passwords ready call [] password following same fit (pairCheck k clock size first second) (rw e) (pair-meant k clock size first second)
+
+pub demand-2 : Demand2
+unfolding requestedAt
+demand-2 passwords request c (login {p = p}) serial clock s at ready = single-told passwords Call.Login [] p ready refl refl refl
+demand-2 passwords request c (challengeLogin {q = q} {p = p}) serial clock s at ready = single-told passwords Call.ChallengeLogin q p ready refl refl refl
+demand-2 passwords request c (activate {p = p} {f = f}) serial clock s at ready = pair-told passwords Call.Activate p f ready refl refl refl
+demand-2 passwords request c (unlock {p = p}) serial clock s at ready = single-told passwords Call.Unlock [] p ready refl refl refl
+demand-2 passwords request c (resume {p = p}) serial clock s at ready = single-told passwords Call.Resume [] p ready refl refl refl
+demand-2 passwords request c (syncMedium {p = p} {f = f}) serial clock s at ready = pair-told passwords Call.SyncMedium p f ready refl refl refl
+demand-2 passwords request c (syncLarge {p = p} {f = f}) serial clock s at ready = pair-told passwords Call.SyncLarge p f ready refl refl refl
