@@ -12,8 +12,7 @@ use Rattle.words.specs.Tables.{every, and-left, and-right, entry-rule}
 use Rattle.window.specs.declared.Size.{Size}
 use Rattle.window.specs.declared.Track.{Track}
 use Rattle.window.specs.declared.Outcome.{Outcome}
-use Rattle.window.specs.PasswordAt.{PasswordRule, hasBy}
-use Rattle.window.specs.TokenCheck.{singleCheck, pairCheck}
+use Rattle.window.specs.PasswordAt.{PasswordRule}
 use Rattle.row.specs.declared.Row.{Row}
 use Rattle.row.specs.declared.reading.Place.{Place}
 use Rattle.row.specs.Row.{rowAt, numberTests, numbersOk, wellFormed}
@@ -28,7 +27,7 @@ use Rattle.token.specs.Calls.{empty, allowed, checkingOf, isVoid, usedRefusal, 
 use Rattle.token.specs.Codes.{successNumber, refusalNumber, numberOf}
 use Rattle.token.specs.States.{waitOver, waited, failed}
 use Rattle.token.specs.Serving.{refusing, judging, timely, checking, permitted, serving, served, querying}
-use Rattle.token.specs.OnTable.{Result, secretAt, stored, servedAt, queriedAt}
+use Rattle.token.specs.OnTable.{Result, stored, servedAt, queriedAt}
 use Rattle.token.specs.OnTableLaws.{numbers-of}
 use Rattle.desk.specs.declared.particulars.Particulars.{Particulars}
 use Rattle.desk.specs.Requests.{Request, DeskCall, tableOk, clockOk, requestOk, loadOk}
@@ -157,9 +156,7 @@ module _ (request : Request) (clock : ℕ) (s : List ℕ) (at : ℕ) where
     unfolding servedAt served serving
     served-fits passwords challenge presented following h =
         either-by Fits (wellFormed s at)
-        (λ ok. permitted-fits (λ k size. singleCheck k clock size (hasBy passwords (k .rule) (secretAt s at) challenge presented))
-        (λ k size. pairCheck k clock size (hasBy passwords (k .rule) (secretAt s at) challenge presented) (hasBy passwords (k .rule) (secretAt s at) challenge following))
-        (waited-standing (rowAt s at) clock (h ok)))
+        (λ ok. permitted-fits _ _ (waited-standing (rowAt s at) clock (h ok)))
         (λ damaged. (refl, refl))
 
 requested-fits : (passwords : PasswordRule) (request : Request) (clock : ℕ) (s : List ℕ) (at : ℕ) → (wellFormed s at ≡ true → Standing (rowAt s at .state))

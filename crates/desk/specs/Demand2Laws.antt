@@ -1,7 +1,7 @@
 -- Demand 2 (`Promise`): a checked call that is ready to be judged tells accepted, used and wrong apart, exactly.
 use Prim.Native.Nat.{ℕ, suc, _+_, _≤_, _<_}
-use mathlib.Core.Path.{_≡_, refl, sym, subst, _∙_}
-use mathlib.Core.Bool.{Bool, true, false, _&&_, _||_, not, cond}
+use mathlib.Core.Path.{_≡_, refl, subst}
+use mathlib.Core.Bool.{Bool, true, false, _&&_, not}
 use mathlib.Core.List.{List, [], _∷_}
 use mathlib.Core.Option.{Option, none, some}
 use native.Mathlib.Nat.{add-zero}
@@ -22,12 +22,8 @@ use Rattle.window.specs.CheckLaws.{Found, found, missing, smallest-found, clash
 use Rattle.window.specs.TokenCheck.{singleCheck, pairCheck}
 use Rattle.window.specs.Meaning.{Never, First, single-accepted-exactly, single-used-exactly, single-wrong-exactly, pair-accepted-exactly, pair-used-exactly, pair-wrong-exactly}
 use Rattle.row.specs.declared.Row.{Row}
-use Rattle.row.specs.declared.reading.Place.{Place}
-use Rattle.row.specs.Row.{rowAt, wellFormed}
+use Rattle.row.specs.Row.{rowAt}
 use Rattle.token.specs.declared.calls.Call.{Call}
-use Rattle.token.specs.declared.calls.Checking.the-variants.{Single, Pair}
-use Rattle.token.specs.declared.answers.Refusal.{Refusal}
-use Rattle.token.specs.declared.answers.Answer.{Answer}
 use Rattle.token.specs.Calls.{allowed, checkingOf, usedRefusal, wrongRefusal}
 use Rattle.token.specs.Codes.{successNumber, refusalNumber, numberOf}
 use Rattle.token.specs.States.{waitOver, waited}
@@ -36,7 +32,7 @@ use Rattle.token.specs.Serving.{judging, timely, checking, permitted, serving, 
 use Rattle.token.specs.OnTable.{secretAt, servedAt}
 use Rattle.desk.specs.Requests.{Request, DeskCall}
 use Rattle.desk.specs.Desk.{requestedAt, deskAfter}
-use Rattle.desk.specs.Promise.{oneOf, nameOf, Checking, Checks, Ready, Hits, nextAt, alone, inRow, Told, Demand2, login, challengeLogin, activate, unlock, resume, syncMedium, syncLarge}
+use Rattle.desk.specs.Promise.{oneOf, Checking, Ready, Hits, nextAt, Told, Demand2, login, challengeLogin, activate, unlock, resume, syncMedium, syncLarge}
 use Rattle.desk.specs.Branches.{either}
 
 -- ---- an outcome that means what it says of hits
@@ -78,8 +74,8 @@ first-passes test x t = by-found (smallest test (suc x)) (smallest-found test (s
 
 -- ---- the codes of a check are those of the call's outcomes, and tell them apart
 
-abbrev fits : Call → Checking → Bool
-fits call c =
+abbrev codesFit : Call → Checking → Bool
+codesFit call c =
     ((eqb (successNumber call) (c .success) && eqb (refusalNumber (usedRefusal call)) (c .used)) && eqb (refusalNumber (wrongRefusal call)) (c .wrong))
     && ((ltb (c .success) (c .used) && ltb (c .success) (c .wrong)) && ((ltb (c .used) 0x8106 && ltb (c .wrong) 0x8106) && not (eqb (c .used) (c .wrong))))
 
@@ -93,7 +89,7 @@ record Coded (call : Call) (c : Checking) : Type 0 where
   wrong-far : c .wrong < 0x8106
   used-wrong : c .used ≡ c .wrong → ⊥
 
-coded : (call : Call) (c : Checking) → fits call c ≡ true → Coded call c
+coded : (call : Call) (c : Checking) → codesFit call c ≡ true → Coded call c
 coded call c t =
     record {
       success = search (and-left, and-right, eqb-true) depth 8;
@@ -140,24 +136,24 @@ module _ (call : Call) (row : Row) (clock : ℕ) (c : Checking) (codes : Coded c
         record {
           accepted = (
             λ e.
-            let a = told-accepted o e in
-            let x = meant .accepted .0 (a .0) (a .1) in
-            let t = x .1 .passes in
-            (x .0, (leb-true next (x .0) (and-left (leb next (x .0)) (hit (x .0)) t), and-right (leb next (x .0)) (hit (x .0)) t)),
+                let a = told-accepted o e in
+                let x = meant .accepted .0 (a .0) (a .1) in
+                let t = x .1 .passes in
+                (x .0, (leb-true next (x .0) (and-left (leb next (x .0)) (hit (x .0)) t), and-right (leb next (x .0)) (hit (x .0)) t)),
             λ x.
-            let f = first-passes (freshHit hit next) (x .0) (fresh (x .0) (x .1 .0) (x .1 .1)) in
-            rw (meant .accepted .1 (f .0) (f .1)) (codes .success)
+                let f = first-passes (freshHit hit next) (x .0) (fresh (x .0) (x .1 .0) (x .1 .1)) in
+                rw (meant .accepted .1 (f .0) (f .1)) (codes .success),
           );
           smallest = λ x l t before. rw (meant .accepted .1 x (record { passes = fresh x l t; before = λ y b. not-fresh y (λ m. before y m b) }));
           used = (
             λ e.
-            let u = meant .used .0 (told-used o e) in
-            let x = u .1 .0 in
-            let t = u .1 .1 in
-            (λ y l. rw (le-leb next y l) at (u .0 y), (x, (ltb-true x next (and-left (ltb x next) (hit x) t), and-right (ltb x next) (hit x) t))),
+                let u = meant .used .0 (told-used o e) in
+                let x = u .1 .0 in
+                let t = u .1 .1 in
+                (λ y l. rw (le-leb next y l) at (u .0 y), (x, (ltb-true x next (and-left (ltb x next) (hit x) t), and-right (ltb x next) (hit x) t))),
             λ h.
-            let x = h .1 in
-            rw (meant .used .1 (λ y. not-fresh y (h .0 y)) (x .0) (and-both (lt-ltb (x .0) next (x .1 .0)) (x .1 .1))) (codes .used)
+                let x = h .1 in
+                rw (meant .used .1 (λ y. not-fresh y (h .0 y)) (x .0) (and-both (lt-ltb (x .0) next (x .1 .0)) (x .1 .1))) (codes .used),
           );
           wrong = (λ e. meant .wrong .0 (told-wrong o e), λ h. rw (meant .wrong .1 h) (codes .wrong));
         }
@@ -201,11 +197,11 @@ module _ (passwords : PasswordRule) {request : Request} {c : Checking} {serial c
         pairCheck k clock size (hasBy passwords (k .rule) (secretAt s at) challenge presented) (hasBy passwords (k .rule) (secretAt s at) challenge following)
 
     module _ (same : requestedAt passwords request clock s at ≡ servedAt passwords s at call clock challenge presented following)
-        (fit : fits call c && made call c ≡ true) where
+        (fit : codesFit call c && made call c ≡ true) where
       permitted-judged : (o : Outcome) → checking call row clock single pair (checkingOf call) ≡ timely call row clock o
           → permitted call row clock single pair ≡ judging call row clock o
       permitted-judged o e =
-          let a = listed-passes (allowed call) (c .states) 0 (row .state) (and-right (fits call c) (made call c) fit) (ready .state) in
+          let a = listed-passes (allowed call) (c .states) 0 (row .state) (and-right (codesFit call c) (made call c) fit) (ready .state) in
           rw (a, e, waited-expiry (rowAt s at) clock, lt-leb (rowAt s at .expiry .0) clock (ready .unexpired))
 
       answer-judged : (o : Outcome) → checking call row clock single pair (checkingOf call) ≡ timely call row clock o
@@ -213,53 +209,19 @@ module _ (passwords : PasswordRule) {request : Request} {c : Checking} {serial c
       unfolding servedAt served serving
       answer-judged o e = rw (asked, same, ready .formed, permitted-judged o e)
 
-      ready-told : (o : Outcome) → checking call row clock single pair (checkingOf call) ≡ timely call row clock o
-          → Meant (hits (row .track)) (c .ahead) (row .track .next .0) o
+      ready-told : {o : Outcome} → Meant (hits (row .track)) (c .ahead) (row .track .next .0) o
+          → checking call row clock single pair (checkingOf call) ≡ timely call row clock o
           → Told (deskAfter passwords (DeskCall.named request serial clock) s .answer) c (nextAt s at) (Hits passwords c clock s at)
-      ready-told o e meant =
+      ready-told {o} meant e =
           subst (λ (k : Track). Told (deskAfter passwords (DeskCall.named request serial clock) s .answer) c (k .next .0) (hits k)) (waited-track (rowAt s at) clock)
-          (rw (answer-judged o e) (judged-told call row clock c (coded call c (and-left (fits call c) (made call c) fit)) (hits (row .track)) (row .track .next .0) o meant))
-
--- ---- the seven checked calls
-
-abbrev singly : List ℕ → Size → ℕ → ℕ → ℕ → List ℕ → List ℕ → Checking
-singly states size success used wrong challenge password =
-    record { states = states; size = size; success = success; used = used; wrong = wrong; ahead = 0; matches = alone challenge password }
-
-abbrev paired : List ℕ → Size → ℕ → ℕ → ℕ → List ℕ → List ℕ → Checking
-paired states size success used wrong password following =
-    record { states = states; size = size; success = success; used = used; wrong = wrong; ahead = 1; matches = inRow password following }
-
-module _ (passwords : PasswordRule) {request : Request} {states : List ℕ} {size : Size} {success used wrong serial clock : ℕ} {s : List ℕ} {at : ℕ} (call : Call) where
-  single-told : (challenge password : List ℕ) (ready : Ready request (singly states size success used wrong challenge password) serial clock s at)
-      → requestedAt passwords request clock s at ≡ servedAt passwords s at call clock challenge password []
-      → fits call (singly states size success used wrong challenge password) && made call (singly states size success used wrong challenge password) ≡ true
-      → checkingOf call ≡ Single size
-      → Told (deskAfter passwords (DeskCall.named request serial clock) s .answer) (singly states size success used wrong challenge password) (nextAt s at)
-      (Hits passwords (singly states size success used wrong challenge password) clock s at)
-  single-told challenge password ready same fit e =
-      let k = waited (rowAt s at) clock .track in
-      let matches = hasBy passwords (k .rule) (secretAt s at) challenge password in
-      ready-told passwords ready call challenge password [] same fit (singleCheck k clock size matches) (rw e) (single-meant k clock size matches)
-
-  pair-told : (password following : List ℕ) (ready : Ready request (paired states size success used wrong password following) serial clock s at)
-      → requestedAt passwords request clock s at ≡ servedAt passwords s at call clock [] password following
-      → fits call (paired states size success used wrong password following) && made call (paired states size success used wrong password following) ≡ true
-      → checkingOf call ≡ Pair size
-      → Told (deskAfter passwords (DeskCall.named request serial clock) s .answer) (paired states size success used wrong password following) (nextAt s at)
-      (Hits passwords (paired states size success used wrong password following) clock s at)
-  pair-told password following ready same fit e =
-      let k = waited (rowAt s at) clock .track in
-      let first = hasBy passwords (k .rule) (secretAt s at) [] password in
-      let second = hasBy passwords (k .rule) (secretAt s at) [] following in
-      ready-told passwords ready call [] password following same fit (pairCheck k clock size first second) (rw e) (pair-meant k clock size first second)
+          (rw (answer-judged o e) (judged-told call row clock c (coded call c (and-left (codesFit call c) (made call c) fit)) (hits (row .track)) (row .track .next .0) o meant))
 
 pub demand-2 : Demand2
 unfolding requestedAt
-demand-2 passwords request c (login {p = p}) serial clock s at ready = single-told passwords Call.Login [] p ready refl refl refl
-demand-2 passwords request c (challengeLogin {q = q} {p = p}) serial clock s at ready = single-told passwords Call.ChallengeLogin q p ready refl refl refl
-demand-2 passwords request c (activate {p = p} {f = f}) serial clock s at ready = pair-told passwords Call.Activate p f ready refl refl refl
-demand-2 passwords request c (unlock {p = p}) serial clock s at ready = single-told passwords Call.Unlock [] p ready refl refl refl
-demand-2 passwords request c (resume {p = p}) serial clock s at ready = single-told passwords Call.Resume [] p ready refl refl refl
-demand-2 passwords request c (syncMedium {p = p} {f = f}) serial clock s at ready = pair-told passwords Call.SyncMedium p f ready refl refl refl
-demand-2 passwords request c (syncLarge {p = p} {f = f}) serial clock s at ready = pair-told passwords Call.SyncLarge p f ready refl refl refl
+demand-2 passwords request c (login {p = p}) serial clock s at ready = ready-told passwords ready Call.Login [] p [] refl refl (single-meant _ _ _ _) refl
+demand-2 passwords request c (challengeLogin {q = q} {p = p}) serial clock s at ready = ready-told passwords ready Call.ChallengeLogin q p [] refl refl (single-meant _ _ _ _) refl
+demand-2 passwords request c (activate {p = p} {f = f}) serial clock s at ready = ready-told passwords ready Call.Activate [] p f refl refl (pair-meant _ _ _ _ _) refl
+demand-2 passwords request c (unlock {p = p}) serial clock s at ready = ready-told passwords ready Call.Unlock [] p [] refl refl (single-meant _ _ _ _) refl
+demand-2 passwords request c (resume {p = p}) serial clock s at ready = ready-told passwords ready Call.Resume [] p [] refl refl (single-meant _ _ _ _) refl
+demand-2 passwords request c (syncMedium {p = p} {f = f}) serial clock s at ready = ready-told passwords ready Call.SyncMedium [] p f refl refl (pair-meant _ _ _ _ _) refl
+demand-2 passwords request c (syncLarge {p = p} {f = f}) serial clock s at ready = ready-told passwords ready Call.SyncLarge [] p f refl refl (pair-meant _ _ _ _ _) refl

@@ -1,5 +1,5 @@
 -- The buyer's first and second demands (docs/OFFER.md), for every password rule, both kinds and both ciphers at once. This page has the
--- statements; `PromiseLaws` has the proofs.
+-- statements; `Demand1Laws` and `Demand2Laws` have the proofs.
 use Prim.Native.Nat.{ℕ, _+_, _≤_, _<_}
 use mathlib.Core.Path.{_≡_}
 use mathlib.Core.Bool.{Bool, true, false, _&&_, _||_, cond}
