@@ -62,6 +62,7 @@ checkListed request call Checking.Nothing = true
 checkListed request call (Checking.Single size) = checkedListed request call
 checkListed request call (Checking.Pair size) = checkedListed request call
 
+-- what is computed of a request and its name in Part 5's table; the seven entries are the states 0 to 6
 record CodesListed (request : Request) (call : Call) : Type 0 where
   success : listed request (successNumber call) ≡ true
   wipes : isVoid call ≡ eqb (successNumber call) 0x010a
