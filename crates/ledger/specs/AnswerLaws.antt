@@ -17,7 +17,7 @@ use Rattle.token.specs.declared.answers.Refusal.{Refusal}
 use Rattle.token.specs.declared.answers.Answer.{Answer}
 use Rattle.token.specs.Codes.{successNumber, refusalNumber, numberOf}
 use Rattle.desk.specs.Requests.{Request, DeskCall}
-use Rattle.ledger.specs.Branches.{either}
+use Rattle.desk.specs.Branches.{either}
 use Rattle.ledger.specs.Ledger.{Loaded, Reading, oneOf, entered, needing, judgedBy, unexpired, requested}
 use Rattle.ledger.specs.FreshLaws.{FreshIfAccepted, single-fresh, pair-fresh}
 

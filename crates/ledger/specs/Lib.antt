@@ -4,7 +4,6 @@ pub mod Promise
 pub mod Proved
 -- the desk on tokens in place of bytes
 pub mod Tokens
-pub mod Branches
 pub mod Ranges
 pub mod RangeLaws
 pub mod ServedLaws

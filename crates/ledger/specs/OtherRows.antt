@@ -29,7 +29,7 @@ use Rattle.desk.specs.Requests.{Request, DeskCall, tableOk, clockOk, requestOk,
 use Rattle.desk.specs.Desk.{syncCall, requestedAt, requestedOf, loadedAt, loadedBeside, deskAfter}
 use Rattle.ledger.specs.Ledger.{names}
 use Rattle.ledger.specs.Promise.{OtherRowsStay}
-use Rattle.ledger.specs.Branches.{either, either-by}
+use Rattle.desk.specs.Branches.{either, either-by}
 use Rattle.ledger.specs.SaneLaws.{length-zero-filled}
 
 -- ---- what stays of a table
