@@ -4,6 +4,7 @@ mod checked_calls;
 mod loading;
 mod naming;
 mod plain_calls;
+mod querying;
 
 pub use checked_calls::activate;
 pub use checked_calls::challenge_login;
@@ -12,10 +13,10 @@ pub use checked_calls::resume;
 pub use checked_calls::sync;
 pub use checked_calls::unlock;
 pub use loading::load;
-pub use naming::query;
 pub use plain_calls::lock;
 pub use plain_calls::suspend;
 pub use plain_calls::void;
+pub use querying::query;
 use window::Rule;
 use window::Seconds;
 

@@ -5,7 +5,6 @@ use row::find_row;
 use token::Answer;
 use token::Call;
 use token::Refusal;
-use token::query_at;
 use token::serve_at;
 use window::Seconds;
 ghost use mathlib.Core.Path.{_≡_};
@@ -14,8 +13,6 @@ ghost use Rattle.otp.specs.Password.{challengeOk};
 ghost use Rattle.window.specs.PasswordAt.{passwordAt};
 ghost use Rattle.token.specs.Calls.{checkingOf};
 ghost use Rattle.token.specs.ServingLaws.{Fitting};
-ghost use Rattle.desk.specs.Requests.{Request, DeskCall};
-ghost use Rattle.desk.specs.Desk.{deskAfter};
 ghost use Rattle.desk.specs.DeskLaws.{calledOn};
 
 // A call other than load and query, its own arguments in range. Passwords and challenge that it does not have are empty.
@@ -40,17 +37,4 @@ pub(crate) fn on_token(
         return Answer::Refused(Refusal::Unknown);
     };
     serve_at(table, at, call, clock, challenge, presented, following)
-}
-
-// The call `query`.
-pub fn query(table: &[u8], serial: u64, clock: Seconds) -> Answer
-    ensures { λ r. ⌜ r ≡ deskAfter passwordAt (DeskCall.named Request.query serial (clock .0)) (now (table .entry)) .answer ⌝ }
-{
-    if !lent_ok(table, clock) {
-        return Answer::Refused(Refusal::BadArgument);
-    }
-    let Place::At(at) = find_row(table, serial) else {
-        return Answer::Refused(Refusal::Unknown);
-    };
-    query_at(table, at, clock)
 }

@@ -3,8 +3,8 @@ use mathlib.Core.Path.{sym, _∙_}
 use borrow.Author.Tests.{not-true, not-false}
 use Rattle.desk.specs.DeskLaws.{query-unlent, query-nowhere, query-found, within-table}
 use borrow.Author.Needs.{needs}
-use Rattle.desk.proofs.naming.query.Statement.{statement}
-use Rattle.desk.proofs.naming.query.Tie as tie
+use Rattle.desk.proofs.querying.query.Statement.{statement}
+use Rattle.desk.proofs.querying.query.Tie as tie
 
 lent-ok-requires : tie.Need-lent-ok-requires
 lent-ok-requires c κs = search needs
