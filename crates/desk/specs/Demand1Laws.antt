@@ -1,4 +1,4 @@
--- Demand 1 (`Promise`): every branch of a call gives a listed code and leaves the bytes named for it.
+-- Demand 1 (`Demand1`): every branch of a call gives a listed code and leaves the bytes named for it.
 use Prim.Native.Nat.{ℕ, _+_, _<_}
 use mathlib.Core.Path.{_≡_, refl}
 use mathlib.Core.Bool.{Bool, true, false, _&&_, _||_, not}
@@ -32,8 +32,9 @@ use Rattle.token.specs.OnTableLaws.{numbers-of}
 use Rattle.desk.specs.declared.Particulars.{Particulars}
 use Rattle.desk.specs.Requests.{Request, DeskCall, tableOk, clockOk, requestOk, loadOk}
 use Rattle.desk.specs.Desk.{loadedAt, loadedBeside, requestedAt, requestedOf, deskAfter}
-use Rattle.desk.specs.Promise.{oneOf, codesOf, nameOf, atPlace, waitCodes, errorCodes, requestBytes, bytesFor, Demand1}
-use Rattle.desk.specs.Branches.{either, either-by}
+use Rattle.words.specs.Lists.{oneOf}
+use Rattle.desk.specs.Demand1.{codesOf, nameOf, atPlace, waitCodes, errorCodes, requestBytes, bytesFor, Demand1}
+use Rattle.words.specs.Branches.{either, either-by}
 
 -- ---- the codes of a request, as tests that compute
 

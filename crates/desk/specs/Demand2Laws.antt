@@ -1,4 +1,4 @@
--- Demand 2 (`Promise`): a checked call that is ready to be judged tells accepted, used and wrong apart, exactly.
+-- Demand 2 (`Demand2`): a checked call that is ready to be judged tells accepted, used and wrong apart, exactly.
 use Prim.Native.Nat.{ℕ, suc, _+_, _≤_, _<_}
 use mathlib.Core.Path.{_≡_, refl, subst}
 use mathlib.Core.Bool.{Bool, true, false, _&&_, not}
@@ -32,8 +32,9 @@ use Rattle.token.specs.Serving.{judging, timely, checking, permitted, serving, 
 use Rattle.token.specs.OnTable.{secretAt, servedAt}
 use Rattle.desk.specs.Requests.{Request, DeskCall}
 use Rattle.desk.specs.Desk.{requestedAt, deskAfter}
-use Rattle.desk.specs.Promise.{oneOf, Checking, Ready, Hits, nextAt, Told, Demand2, login, challengeLogin, activate, unlock, resume, syncMedium, syncLarge}
-use Rattle.desk.specs.Branches.{either}
+use Rattle.words.specs.Lists.{oneOf}
+use Rattle.desk.specs.Demand2.{Checking, Ready, Hits, nextAt, Told, Demand2, login, challengeLogin, activate, unlock, resume, syncMedium, syncLarge}
+use Rattle.words.specs.Branches.{either}
 
 -- ---- an outcome that means what it says of hits
 

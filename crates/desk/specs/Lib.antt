@@ -1,10 +1,10 @@
 -- The desk: its calls, what each says and leaves in the table, and the buyer's first and second demands.
 pub mod Requests
 pub mod Desk
-pub mod Promise
+pub mod Demand1
+pub mod Demand2
 pub mod Demand1Laws
 pub mod Demand2Laws
-pub mod Branches
 pub mod ArgumentsLaws
 pub mod DeskLaws
 pub mod LoadLaws

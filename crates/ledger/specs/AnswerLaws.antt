@@ -17,8 +17,9 @@ use Rattle.token.specs.declared.answers.Refusal.{Refusal}
 use Rattle.token.specs.declared.answers.Answer.{Answer}
 use Rattle.token.specs.Codes.{successNumber, refusalNumber, numberOf}
 use Rattle.desk.specs.Requests.{Request, DeskCall}
-use Rattle.desk.specs.Branches.{either}
-use Rattle.ledger.specs.Ledger.{Loaded, Reading, oneOf, entered, needing, judgedBy, unexpired, requested}
+use Rattle.words.specs.Branches.{either}
+use Rattle.ledger.specs.Ledger.{Loaded, Reading, entered, needing, judgedBy, unexpired, requested}
+use Rattle.words.specs.Lists.{oneOf}
 use Rattle.ledger.specs.FreshLaws.{FreshIfAccepted, single-fresh, pair-fresh}
 
 -- the step of a checked success is at or after `next`

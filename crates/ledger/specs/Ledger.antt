@@ -6,6 +6,7 @@ use mathlib.Core.List.{List, [], _∷_, _++_}
 use mathlib.Core.Option.{Option, none, some}
 use lib.Dec.{eqb, leb, ltb}
 use lib.ListN.{length, replicate}
+use Rattle.words.specs.Lists.{oneOf}
 use Rattle.window.specs.declared.Size.the-variants.{Small, Medium, Large}
 use Rattle.window.specs.declared.Offset.{Offset}
 use Rattle.window.specs.declared.Track.{Track}
@@ -35,10 +36,6 @@ pub record Entry : Type 0 where
 abbrev pub names : DeskCall → ℕ → Bool
 names (DeskCall.load p key) serial = eqb (p .serial) serial
 names (DeskCall.named request other clock) serial = eqb other serial
-
-abbrev pub oneOf : ℕ → List ℕ → Bool
-oneOf x [] = false
-oneOf x (y ∷ ys) = eqb x y || oneOf x ys
 
 -- ---- particulars: those of the load answered 0140; rows stand in the order of such loads
 

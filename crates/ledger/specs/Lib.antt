@@ -1,7 +1,7 @@
 -- The ledger machine (a term of document 01) and the buyer's third demand: the definitions, the claims, their proofs, and the steps to them.
 pub mod Ledger
-pub mod Promise
-pub mod Proved
+pub mod Demand3
+pub mod Demand3Laws
 -- the desk on tokens in place of bytes
 pub mod Tokens
 pub mod Ranges

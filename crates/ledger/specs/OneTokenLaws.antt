@@ -26,7 +26,8 @@ use Rattle.token.specs.Codes.{successNumber, refusalNumber}
 use Rattle.token.specs.States.{waitOver, waited, moved, offsetAfter, accepted, failed}
 use Rattle.token.specs.Serving.{refusing, judging, timely}
 use Rattle.desk.specs.Requests.{Request}
-use Rattle.ledger.specs.Ledger.{Loaded, Reading, oneOf, runOut, follows, isLogin, isQuery, needing, offsetWith, judgedBy, unexpired}
+use Rattle.ledger.specs.Ledger.{Loaded, Reading, runOut, follows, isLogin, isQuery, needing, offsetWith, judgedBy, unexpired}
+use Rattle.words.specs.Lists.{oneOf}
 use Rattle.ledger.specs.FreshLaws.{FreshIfAccepted}
 use Rattle.ledger.specs.Entering.{rowWith, Agrees}
 

@@ -28,8 +28,8 @@ use Rattle.desk.specs.declared.Particulars.{Particulars}
 use Rattle.desk.specs.Requests.{Request, DeskCall, tableOk, clockOk, requestOk, loadedRow, loadOk}
 use Rattle.desk.specs.Desk.{syncCall, requestedAt, requestedOf, loadedAt, loadedBeside, deskAfter}
 use Rattle.ledger.specs.Ledger.{names}
-use Rattle.ledger.specs.Promise.{OtherRowsStay}
-use Rattle.desk.specs.Branches.{either, either-by}
+use Rattle.ledger.specs.Demand3.{OtherRowsStay}
+use Rattle.words.specs.Branches.{either, either-by}
 use Rattle.ledger.specs.SaneLaws.{length-zero-filled}
 
 -- ---- what stays of a table

@@ -19,7 +19,7 @@ use Rattle.row.specs.RowLaws.{InWidths, row-sound}
 use Rattle.token.specs.declared.calls.Call.{Call}
 use Rattle.token.specs.Calls.{ready, lockedByErrors, stateAfter}
 use Rattle.token.specs.States.{changed, waitOver, waited, lockedAfter, moved, trackAfter, accepted, errorsAfter, locksOut, failed}
-use Rattle.desk.specs.Branches.{either}
+use Rattle.words.specs.Branches.{either}
 use Rattle.ledger.specs.Ranges.{lastNext, offsetOk, lockedOk, InRanges, Live, Leaves}
 
 module _ (r : Row) where

@@ -19,7 +19,7 @@ use Rattle.token.specs.OnTable.{wipes}
 use Rattle.desk.specs.declared.Particulars.{Particulars}
 use Rattle.desk.specs.Requests.{Request, DeskCall, clockOk, requestOk, loadedRow, loadOk}
 use Rattle.ledger.specs.Tokens.{Token, Held, kept, requestedToken, servedAmong, hasToken, tokensAfter, Sane, AllSane}
-use Rattle.desk.specs.Branches.{either, either-by}
+use Rattle.words.specs.Branches.{either, either-by}
 use Rattle.ledger.specs.Ranges.{Live}
 use Rattle.ledger.specs.RangeLaws.{numbers-in-ranges, ranges-ok}
 use Rattle.ledger.specs.ServedLaws.{requested-leaves}

@@ -22,7 +22,7 @@ use Rattle.token.specs.Serving.{judging, timely, checking, permitted, serving, 
 use Rattle.desk.specs.Requests.{Request}
 use Rattle.desk.specs.Desk.{syncCall}
 use Rattle.ledger.specs.Tokens.{Token, requestedToken}
-use Rattle.desk.specs.Branches.{either}
+use Rattle.words.specs.Branches.{either}
 use Rattle.ledger.specs.Ranges.{Live, Leaves}
 use Rattle.ledger.specs.RangeLaws.{leaves-itself, leaves-next, waited-leaves, moved-leaves, failed-leaves, accepted-leaves}
 

@@ -13,9 +13,9 @@ use Rattle.window.specs.PasswordAt.{PasswordRule}
 use Rattle.token.specs.declared.answers.Content.{Content}
 use Rattle.token.specs.declared.answers.Answer.{Answer}
 use Rattle.desk.specs.Requests.{Request, DeskCall, clockOk, requestOk, loadOk}
-use Rattle.desk.specs.Branches.{either}
+use Rattle.words.specs.Branches.{either}
 use Rattle.ledger.specs.Ledger.{Entry, Loaded, names, loads, loadOf, nextOf, usedOf, pastStep, runOut, reading, trackOf, requestedOf, loadedOf, answerTo, ledgerFrom, ledger}
-use Rattle.ledger.specs.Promise.{stepIn, acceptedSteps, AllAbove, Rising}
+use Rattle.ledger.specs.Demand3.{stepIn, acceptedSteps, AllAbove, Rising}
 use Rattle.ledger.specs.LoadsLaws.{found-serial}
 use Rattle.ledger.specs.TokenLaws.{unnamed-unmoved}
 use Rattle.ledger.specs.AnswerLaws.{StepFrom, request-fits}

@@ -10,3 +10,4 @@ pub mod Tables
 pub mod Codes
 pub mod Output
 pub mod OutputLaws
+pub mod Branches

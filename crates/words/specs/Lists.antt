@@ -1,6 +1,6 @@
 -- Tests on lists of bytes.
 use Prim.Native.Nat.{ℕ}
-use mathlib.Core.Bool.{Bool, true, false, _&&_}
+use mathlib.Core.Bool.{Bool, true, false, _&&_, _||_}
 use mathlib.Core.List.{List, [], _∷_}
 use lib.Dec.{eqb, leb}
 
@@ -20,3 +20,8 @@ allZero (x ∷ s) = eqb x 0 && allZero s
 unfoldable pub allWithin : ℕ → ℕ → List ℕ → Bool
 allWithin low high [] = true
 allWithin low high (x ∷ s) = (leb low x && leb x high) && allWithin low high s
+
+-- x stands in the list
+abbrev pub oneOf : ℕ → List ℕ → Bool
+oneOf x [] = false
+oneOf x (y ∷ ys) = eqb x y || oneOf x ys

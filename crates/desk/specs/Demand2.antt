@@ -1,104 +1,25 @@
--- The buyer's first and second demands (docs/OFFER.md), for every password rule, both kinds and both ciphers at once. This page has the
--- statements; `Demand1Laws` and `Demand2Laws` have the proofs.
+-- The buyer's second demand (docs/OFFER.md): accepted exactly when a candidate at or after the first unused step has the presented password,
+-- else used or wrong exactly as document 01 says. It holds for every password rule, both kinds and both ciphers at once; `Demand2Laws` has the proof.
 use Prim.Native.Nat.{ℕ, _+_, _≤_, _<_}
 use mathlib.Core.Path.{_≡_}
-use mathlib.Core.Bool.{Bool, true, false, _&&_, _||_, cond}
+use mathlib.Core.Bool.{Bool, true, false, _&&_}
 use mathlib.Core.List.{List, [], _∷_}
 use mathlib.Core.Option.{Option, none, some}
-use lib.Dec.{eqb}
+use Rattle.words.specs.Lists.{oneOf}
 use Rattle.window.specs.declared.Size.{Size}
 use Rattle.window.specs.declared.Size.the-variants.{Small, Medium, Large}
 use Rattle.window.specs.Window.{candidate}
 use Rattle.window.specs.PasswordAt.{PasswordRule, hasBy}
 use Rattle.row.specs.declared.reading.Place.{Place}
 use Rattle.row.specs.Row.{rowAt, wellFormed}
-use Rattle.row.specs.Table.{findRow, findEmpty, storeRow, wipeKey, writeRow}
-use Rattle.token.specs.declared.calls.Call.{Call}
+use Rattle.row.specs.Table.{findRow}
 use Rattle.token.specs.declared.answers.Content.{Content}
 use Rattle.token.specs.declared.answers.Answer.{Answer}
 use Rattle.token.specs.Codes.{numberOf}
-use Rattle.token.specs.States.{waited, moved, accepted, failed}
+use Rattle.token.specs.States.{waited, accepted}
 use Rattle.token.specs.OnTable.{secretAt}
-use Rattle.desk.specs.Requests.{Request, DeskCall, tableOk, clockOk, requestOk, loadedRow}
-use Rattle.desk.specs.Desk.{syncCall, deskAfter}
-
-abbrev pub oneOf : ℕ → List ℕ → Bool
-oneOf x [] = false
-oneOf x (y ∷ ys) = eqb x y || oneOf x ys
-
--- ---- demand 1: one of the codes listed for the call, and the bytes named for that code
-
-abbrev pub requestCodes : Request → List ℕ
-requestCodes (Request.login password) = 0x0001 ∷ 0x8404 ∷ 0x8405 ∷ 0x8406 ∷ 0x8407 ∷ 0x8408 ∷ 0x8106 ∷ 0x8004 ∷ 0x8002 ∷ []
-requestCodes (Request.challengeLogin challenge password) = 0x0002 ∷ 0x8404 ∷ 0x8405 ∷ 0x8406 ∷ 0x8407 ∷ 0x8408 ∷ 0x8106 ∷ 0x8004 ∷ 0x8002 ∷ []
-requestCodes (Request.activate password following) = 0x0101 ∷ 0x8409 ∷ 0x8404 ∷ 0x8405 ∷ 0x8407 ∷ 0x8408 ∷ 0x8106 ∷ 0x8104 ∷ 0x8102 ∷ []
-requestCodes Request.lock = 0x0102 ∷ 0x8404 ∷ 0x8405 ∷ 0x8406 ∷ 0x8407 ∷ []
-requestCodes (Request.unlock password) = 0x0103 ∷ 0x8409 ∷ 0x8405 ∷ 0x8406 ∷ 0x8407 ∷ 0x8408 ∷ 0x8106 ∷ 0x8104 ∷ 0x8102 ∷ []
-requestCodes Request.suspend = 0x0104 ∷ 0x8405 ∷ 0x8406 ∷ 0x8407 ∷ []
-requestCodes (Request.resume password) = 0x0105 ∷ 0x8409 ∷ 0x8404 ∷ 0x8406 ∷ 0x8407 ∷ 0x8408 ∷ 0x8106 ∷ 0x8104 ∷ 0x8102 ∷ []
-requestCodes (Request.sync choice password following) = 0x0108 ∷ 0x8405 ∷ 0x8406 ∷ 0x8407 ∷ 0x8408 ∷ 0x8106 ∷ 0x8104 ∷ 0x8105 ∷ []
-requestCodes Request.void = 0x010a ∷ 0x8407 ∷ []
-requestCodes Request.query = 0x010b ∷ []
-
--- what may be said to each call
-abbrev pub codesOf : DeskCall → List ℕ
-codesOf (DeskCall.load p key) = 0x0140 ∷ 0x9005 ∷ 0x8411 ∷ 0x8410 ∷ []
-codesOf (DeskCall.named request serial clock) = 0x9005 ∷ 0x8402 ∷ 0x8403 ∷ requestCodes request
-
--- the call's name in Part 5's table
-abbrev pub nameOf : Request → Call
-nameOf (Request.login password) = Call.Login
-nameOf (Request.challengeLogin challenge password) = Call.ChallengeLogin
-nameOf (Request.activate password following) = Call.Activate
-nameOf Request.lock = Call.Lock
-nameOf (Request.unlock password) = Call.Unlock
-nameOf Request.suspend = Call.Suspend
-nameOf (Request.resume password) = Call.Resume
-nameOf (Request.sync choice password following) = syncCall choice
-nameOf Request.void = Call.Void
-nameOf Request.query = Call.Query
-
-abbrev pub atPlace : List ℕ → Place → (ℕ → List ℕ) → List ℕ
-atPlace s (Place.At at) written = written at
-atPlace s Place.Nowhere written = s
-
--- the column "Left in the table": the codes that leave only a wait run out, and those that add an error
-abbrev pub waitCodes : List ℕ
-waitCodes = 0x8409 ∷ 0x8404 ∷ 0x8405 ∷ 0x8406 ∷ 0x8407 ∷ 0x8408 ∷ 0x8106 ∷ []
-
-abbrev pub errorCodes : List ℕ
-errorCodes = 0x8004 ∷ 0x8104 ∷ 0x8002 ∷ 0x8102 ∷ 0x8105 ∷ []
-
--- only a wait run out; or errors + 1, with the lock; else unchanged
-abbrev pub refusedBytes : Request → ℕ → List ℕ → ℕ → ℕ → List ℕ
-refusedBytes request clock s at code =
-    cond (oneOf code waitCodes) (storeRow s at (waited (rowAt s at) clock))
-    (cond (oneOf code errorCodes) (storeRow s at (failed (nameOf request) (waited (rowAt s at) clock) clock)) s)
-
--- the column "Success, and what follows": an accepted step marks the row; only a void zeroes the key; a query writes nothing
-abbrev pub successBytes : Request → ℕ → List ℕ → ℕ → Content → List ℕ
-successBytes request clock s at (Content.Checked a d) = storeRow s at (accepted (nameOf request) (waited (rowAt s at) clock) clock (a .0))
-successBytes request clock s at Content.Plain =
-    cond (eqb (numberOf (Answer.Success (nameOf request) Content.Plain)) 0x010a) (wipeKey (storeRow s at (moved (nameOf request) (waited (rowAt s at) clock))) at)
-    (storeRow s at (moved (nameOf request) (waited (rowAt s at) clock)))
-successBytes request clock s at (Content.Told status) = s
-
-abbrev pub requestBytes : Request → ℕ → List ℕ → ℕ → Answer → List ℕ
-requestBytes request clock s at (Answer.Success call content) = successBytes request clock s at content
-requestBytes request clock s at (Answer.Refused refusal) = refusedBytes request clock s at (numberOf (Answer.Refused refusal))
-
--- the bytes that document 01 names for an answer to a call
-abbrev pub bytesFor : DeskCall → List ℕ → Answer → List ℕ
-bytesFor (DeskCall.load p key) s (Answer.Success call content) = atPlace s (findEmpty s) (λ at. writeRow s at (loadedRow p key) key)
-bytesFor (DeskCall.load p key) s (Answer.Refused refusal) = s
-bytesFor (DeskCall.named request serial clock) s answer = atPlace s (findRow s serial) (λ at. requestBytes request clock s at answer)
-
-abbrev pub Demand1 : Type 0
-Demand1 =
-    (passwords : PasswordRule) (call : DeskCall) (s : List ℕ)
-    → (oneOf (numberOf (deskAfter passwords call s .answer)) (codesOf call) ≡ true) × (deskAfter passwords call s .table ≡ bytesFor call s (deskAfter passwords call s .answer))
-
--- ---- demand 2: accepted exactly when a candidate at or after the first unused step has the presented password
+use Rattle.desk.specs.Requests.{Request, DeskCall, tableOk, clockOk, requestOk}
+use Rattle.desk.specs.Desk.{deskAfter}
 
 -- the calls that check a password, with the states in which they are made, the window's size and the codes of used and wrong
 pub record Checking : Type 0 where

@@ -1,4 +1,4 @@
--- The buyer's third demand (docs/OFFER.md), for every password rule. This page has the statements; `Proved` has the proofs.
+-- The buyer's third demand (docs/OFFER.md), for every password rule. This page has the statements; `Demand3Laws` and `OtherRows` have the proofs.
 use Prim.Native.Nat.{ℕ, _+_, _*_, _^_, _≤_, _<_}
 use mathlib.Core.Path.{_≡_}
 use mathlib.Core.Bool.{true, false, _&&_, cond}

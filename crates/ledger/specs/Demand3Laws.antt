@@ -9,7 +9,7 @@ use Rattle.row.specs.Row.{rowBytes}
 use Rattle.desk.specs.Requests.{DeskCall}
 use Rattle.desk.specs.Desk.{Run, run}
 use Rattle.ledger.specs.Ledger.{Entry, loads, answerTo, ledgerFrom, ledger}
-use Rattle.ledger.specs.Promise.{SerialsFit, Demand3, answersOf, StepsRise, VoidAcceptsNothing}
+use Rattle.ledger.specs.Demand3.{SerialsFit, Demand3, answersOf, StepsRise, VoidAcceptsNothing}
 use Rattle.ledger.specs.Tokens.{Held, rendered, tableWith, AllSane}
 use Rattle.ledger.specs.Described.{withEntry, tokensOf, Consistent}
 use Rattle.ledger.specs.BytesStep.{bytes-step}
