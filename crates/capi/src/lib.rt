@@ -1,5 +1,6 @@
 // The functions for C and for other languages (include/dykeladder.h). A slice is a pointer and a length.
 mod checking;
+mod desk_calls;
 mod store;
 
 use otp::Factor;

@@ -1,0 +1,61 @@
+-- What the desk's C functions give and leave: the answer's number and values, and the table (document 01, Part 5).
+use Prim.Native.Nat.{ℕ, _-_, _^_}
+use mathlib.Core.Bool.{cond}
+use mathlib.Core.List.{List, [], _∷_, _++_}
+use lib.Dec.{leb}
+use lib.ListN.{length, drop}
+use Rattle.words.specs.Codes.{badArgument}
+use Rattle.window.specs.PasswordAt.{passwordAt}
+use Rattle.token.specs.declared.answers.Content.{Content}
+use Rattle.token.specs.declared.answers.Answer.{Answer}
+use Rattle.token.specs.Codes.{Signed, numberOf, valuesOf}
+use Rattle.token.specs.OnTable.{Result}
+use Rattle.desk.specs.declared.Particulars.{Particulars}
+use Rattle.desk.specs.Requests.{DeskCall}
+use Rattle.desk.specs.Desk.{deskAfter}
+
+abbrev pub particularsOf : ℕ → ℕ → ℕ → ℕ → ℕ → ℕ → ℕ → ℕ → Particulars
+particularsOf serial kind algorithm digits period limit wait expiry =
+    record {
+      serial = serial;
+      rule = record { kind = kind; algorithm = algorithm; digits = digits };
+      period = period;
+      limit = limit;
+      wait = wait;
+      expiry = record { 0 = expiry };
+    }
+
+-- the code, and the table and the values after the call
+pub record DeskLeft : Type 0 where
+  pub code : ℕ
+  pub table : List ℕ
+  pub values : List ℕ
+
+-- the most values that a success carries
+abbrev pub mostValues : ℕ
+mostValues = 3
+
+-- a signed number in 64 bits, two's complement
+abbrev pub word : Signed → ℕ
+word (Signed.plus n) = n
+word (Signed.minus n) = 2 ^ 64 - n
+
+abbrev pub words : List Signed → List ℕ
+words [] = []
+words (v ∷ vs) = word v ∷ words vs
+
+-- what a success carries goes to the front of the values
+abbrev pub contentLeft : Content → List ℕ → List ℕ
+contentLeft content values = words (valuesOf content) ++ drop (length (words (valuesOf content))) values
+
+abbrev pub answerLeft : Answer → List ℕ → List ℕ
+answerLeft (Answer.Success call content) values = contentLeft content values
+answerLeft (Answer.Refused refusal) values = values
+
+abbrev pub resultLeft : Result → List ℕ → DeskLeft
+resultLeft r values = record { code = numberOf (r .answer); table = r .table; values = answerLeft (r .answer) values }
+
+-- fewer than three values are a bad argument
+unfoldable pub deskLeft : DeskCall → List ℕ → List ℕ → DeskLeft
+deskLeft call s values =
+    cond (leb mostValues (length values)) (resultLeft (deskAfter passwordAt call s) values) (record { code = badArgument; table = s; values = values })

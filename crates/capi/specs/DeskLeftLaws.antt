@@ -1,0 +1,64 @@
+-- What each branch of a desk's C function returns.
+use Prim.Native.Nat.{ℕ, _+_, _-_, _≤_, _<_}
+use mathlib.Core.Path.{_≡_, refl, ap}
+use mathlib.Core.List.{List, [], _∷_}
+use native.Mathlib.Omega.{arith}
+use borrow.Author.Tests.{le-leb, lt-leb}
+use lib.ListN.{length, set}
+use Rattle.words.specs.Codes.{badArgument}
+use Rattle.window.specs.declared.Step.{Step}
+use Rattle.window.specs.declared.Offset.{Offset}
+use Rattle.window.specs.PasswordAt.{passwordAt}
+use Rattle.token.specs.declared.answers.Status.{Status}
+use Rattle.token.specs.declared.answers.Content.{Content}
+use Rattle.token.specs.declared.answers.Answer.{Answer}
+use Rattle.token.specs.Codes.{signedOf, valuesOf, numberOf}
+use Rattle.desk.specs.Requests.{DeskCall}
+use Rattle.desk.specs.Desk.{deskAfter}
+use Rattle.capi.specs.DeskLeft.{word, contentLeft, answerLeft, deskLeft}
+
+-- ---- an offset as a word
+
+module _ (d : Offset) where
+  pub word-ahead : 600 ≤ d .0 → d .0 - 600 ≡ word (signedOf d)
+  unfolding signedOf
+  word-ahead h = rw (le-leb 600 (d .0) h)
+
+  pub word-behind : d .0 < 600 → 0xffffffffffffffff - (600 - d .0) + 1 ≡ word (signedOf d)
+  unfolding signedOf
+  word-behind l = rw (lt-leb 600 (d .0) l) (omega arith)
+
+-- ---- what a success carries, written element by element
+
+pub plain-written : (values : List ℕ) → values ≡ contentLeft Content.Plain values
+unfolding valuesOf
+plain-written values = refl
+
+pub checked-written : (values : List ℕ) → 3 ≤ length values → (step : Step) (d : Offset) {w : ℕ} → w ≡ word (signedOf d)
+    → set (set values 0 (step .0)) 1 w ≡ contentLeft (Content.Checked step d) values
+unfolding valuesOf
+checked-written [] room step d e = absurd (omega arith)
+checked-written (x ∷ []) room step d e = absurd (omega arith)
+checked-written (x ∷ y ∷ values) room step d e = ap (λ (w : ℕ). step .0 ∷ w ∷ values) e
+
+pub told-written : (values : List ℕ) → 3 ≤ length values → (status : Status)
+    → set (set (set values 0 (status .state)) 1 (status .errors)) 2 (status .used .0) ≡ contentLeft (Content.Told status) values
+unfolding valuesOf
+told-written [] room status = absurd (omega arith)
+told-written (x ∷ []) room status = absurd (omega arith)
+told-written (x ∷ y ∷ []) room status = absurd (omega arith)
+told-written (x ∷ y ∷ z ∷ values) room status = refl
+
+-- ---- the desk's answer
+
+module _ (call : DeskCall) (s values : List ℕ) where
+  pub left-short : length values < 3
+      → (badArgument ≡ deskLeft call s values .code) × ((s ≡ deskLeft call s values .table) × (values ≡ deskLeft call s values .values))
+  unfolding deskLeft
+  left-short l = rw (lt-leb 3 (length values) l) (refl, (refl, refl))
+
+  pub left-told : 3 ≤ length values → {answer : Answer} {code : ℕ} {table after : List ℕ} → answer ≡ deskAfter passwordAt call s .answer
+      → table ≡ deskAfter passwordAt call s .table → code ≡ numberOf answer → after ≡ answerLeft answer values
+      → (code ≡ deskLeft call s values .code) × ((table ≡ deskLeft call s values .table) × (after ≡ deskLeft call s values .values))
+  unfolding deskLeft
+  left-told room a t n v = rw (le-leb 3 (length values) room, ← a) (n, (t, v))
