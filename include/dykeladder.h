@@ -1,12 +1,13 @@
 /*
  * Dykeladder: the hash SM3 (GB/T 32905-2016), the cipher SM4
- * (GB/T 32907-2016) and the one-time password (GM/T 0021-2012) of the
- * release-signing token desk.
+ * (GB/T 32907-2016), the one-time password (GM/T 0021-2012) and the
+ * release-signing token desk over a table of tokens.
  *
  * Every buffer is lent as a pointer and a length in elements, and every call
  * returns one code. DL_DONE: the result is written and every byte past it is
- * as it was. DL_BAD_ARGUMENT: a length or a value is out of range and nothing
- * is written. There is none that the caller has to filter beforehand.
+ * as it was; the desk's calls have a code of success each. DL_BAD_ARGUMENT: a
+ * length or a value is out of range and nothing is written. There is none that
+ * the caller has to filter beforehand.
  *
  * The pointers are the caller's part: each must point to as many elements as
  * its length says and must not be null, not even for a length of 0; a buffer
@@ -164,6 +165,250 @@ uint16_t dl_check(uint8_t kind, uint8_t algorithm, uint8_t digits,
                   const uint8_t *presented, size_t presented_len,
                   const uint8_t *following, size_t following_len,
                   uint64_t *step, size_t step_len);
+
+/*
+ * The desk: tokens in a table, each known by its serial.
+ *
+ * The table is the caller's and lent to every call: 1 to 256 rows of 96 bytes
+ * (document 01, Part 4, has their layout). A row whose first byte is 0 is
+ * empty, so a new table is all zeros. It holds the tokens' keys: keep it as
+ * secret as they are. While a call that writes is running, no other call may
+ * have the same table.
+ *
+ * Every call but dl_load goes to the row of the serial that it names, which is
+ * the first one with that serial that is not empty, and changes no other row.
+ * A row that is not well formed is refused and left as it is.
+ *
+ * These arguments mean the same in every call:
+ *
+ *   table      table_len is 96 times 1 to 256
+ *   serial     the token's, any value
+ *   now        the clock in seconds, below 2^40; it may go back
+ *   password   the password typed in; password_len is 6 to 10 and each byte an
+ *              ASCII digit. A number of digits that is not the token's is in
+ *              range, and wrong
+ *   following  the password of the step after it, likewise
+ *   values     takes what a success carries in its first elements; all others
+ *              stay as they were, and all of them when the call is refused
+ *
+ * A call with a password is a checked call. It carries two values: the
+ * accepted step, and the token's offset d from the clock's step, -600 to 600
+ * (0 for an event token); values_len is 2 or more.
+ *
+ * A token locked by errors becomes ready, with errors 0, once its wait has run
+ * out: when now is after the time of the lock by the wait or more. Every call
+ * but dl_load and dl_query writes this to the row before it looks at the
+ * state, also if it then refuses.
+ */
+
+/* Lengths of the desk. */
+#define DL_ROW_BYTES      96
+#define DL_MOST_ROWS      256
+#define DL_CHECKED_VALUES 2 /* the accepted step, the offset */
+#define DL_QUERY_VALUES   3 /* the state, the errors, the last use */
+
+/* States of a token. */
+#define DL_STATE_EMPTY            0 /* no token */
+#define DL_STATE_NOT_ACTIVATED    1
+#define DL_STATE_READY            2
+#define DL_STATE_LOCKED_BY_ERRORS 3
+#define DL_STATE_LOCKED_BY_HAND   4
+#define DL_STATE_SUSPENDED        5
+#define DL_STATE_VOID             6
+
+/* Windows of dl_sync. */
+#define DL_SYNC_MEDIUM 1
+#define DL_SYNC_LARGE  2
+
+/* Codes of success, one for each call. */
+#define DL_LOGGED_IN     0x0001 /* dl_login */
+#define DL_CHALLENGE_MET 0x0002 /* dl_challenge_login */
+#define DL_ACTIVATED     0x0101 /* dl_activate */
+#define DL_LOCKED        0x0102 /* dl_lock */
+#define DL_UNLOCKED      0x0103 /* dl_unlock */
+#define DL_SUSPENDED     0x0104 /* dl_suspend */
+#define DL_RESUMED       0x0105 /* dl_resume */
+#define DL_SYNCHRONIZED  0x0108 /* dl_sync */
+#define DL_VOIDED        0x010a /* dl_void */
+#define DL_QUERIED       0x010b /* dl_query */
+#define DL_LOADED        0x0140 /* dl_load */
+
+/*
+ * Codes of refusal, in the order in which they are tested; DL_BAD_ARGUMENT
+ * comes before them all. Those down to DL_DAMAGED_ROW leave the table as it
+ * was, the next ones but for a wait that has run out.
+ */
+#define DL_SERIAL_TAKEN        0x8411 /* dl_load: a row that is not empty has the serial */
+#define DL_TABLE_FULL          0x8410 /* dl_load: no row is empty */
+#define DL_NO_TOKEN            0x8402 /* no row that is not empty has the serial */
+#define DL_DAMAGED_ROW         0x8403 /* the token's row is not well formed */
+#define DL_TOKEN_READY         0x8409 /* the call needs another state: the token is ready */
+#define DL_TOKEN_LOCKED        0x8404 /* the same: it is locked, by errors or by hand */
+#define DL_TOKEN_SUSPENDED     0x8405 /* the same: it is suspended */
+#define DL_TOKEN_NOT_ACTIVATED 0x8406 /* the same: it is not activated */
+#define DL_TOKEN_VOID          0x8407 /* the same: it is void */
+#define DL_TOKEN_EXPIRED       0x8408 /* a checked call at or after the expiry */
+
+/*
+ * The last refusals are those of the check. Each adds 1 to the token's errors,
+ * which end at 255. dl_login and dl_challenge_login answer DL_USED or
+ * DL_WRONG, and if the errors are then at or above the limit, the token is
+ * locked by errors at now. DL_TOO_FAR would come before these, but no
+ * candidate is so far from the clock.
+ */
+#define DL_MANAGEMENT_USED  0x8104 /* as DL_USED, of the other checked calls */
+#define DL_MANAGEMENT_WRONG 0x8102 /* as DL_WRONG, of dl_activate, dl_unlock, dl_resume */
+#define DL_SYNC_WRONG       0x8105 /* as DL_WRONG, of dl_sync */
+
+/*
+ * Puts a new token into the first empty row, all of whose bytes are set. The
+ * token is not activated; it has no errors, offset 0 and no step used. Of the
+ * rows only states and serials are looked at.
+ *
+ *   kind       DL_TIME_TOKEN or DL_EVENT_TOKEN
+ *   algorithm  DL_ALGORITHM_SM3 or DL_ALGORITHM_SM4
+ *   digits     of the token's passwords, 6 to 10
+ *   period     in seconds, 1 to 60 for a time token; 0 for an event token
+ *   limit      the errors at which a login locks the token, 1 to 10
+ *   key        key_len is 16 to 32
+ *   wait       the seconds after which a lock by errors opens, 60 to 86,400
+ *   expiry     the clock from which on checked calls are refused, at most 2^40
+ *
+ * Returns DL_LOADED, DL_BAD_ARGUMENT, DL_SERIAL_TAKEN or DL_TABLE_FULL.
+ */
+uint16_t dl_load(uint8_t *table, size_t table_len, uint64_t serial,
+                 uint8_t kind, uint8_t algorithm, uint8_t digits,
+                 uint8_t period, uint8_t limit,
+                 const uint8_t *key, size_t key_len,
+                 uint32_t wait, uint64_t expiry);
+
+/*
+ * Checks a password against the small window of a ready token.
+ *
+ * Returns DL_LOGGED_IN, with the step and the offset as values, or
+ * DL_BAD_ARGUMENT, DL_NO_TOKEN, DL_DAMAGED_ROW, DL_TOKEN_LOCKED,
+ * DL_TOKEN_SUSPENDED, DL_TOKEN_NOT_ACTIVATED, DL_TOKEN_VOID,
+ * DL_TOKEN_EXPIRED, DL_USED or DL_WRONG.
+ */
+uint16_t dl_login(uint8_t *table, size_t table_len, uint64_t serial,
+                  uint64_t now,
+                  const uint8_t *password, size_t password_len,
+                  int64_t *values, size_t values_len);
+
+/*
+ * As dl_login, with a password that was made with a challenge.
+ *
+ *   challenge  challenge_len is 4 to 32 and each byte 0x21 to 0x7e
+ *
+ * Returns DL_CHALLENGE_MET, with the step and the offset as values, or what
+ * dl_login returns instead of DL_LOGGED_IN.
+ */
+uint16_t dl_challenge_login(uint8_t *table, size_t table_len, uint64_t serial,
+                            uint64_t now,
+                            const uint8_t *challenge, size_t challenge_len,
+                            const uint8_t *password, size_t password_len,
+                            int64_t *values, size_t values_len);
+
+/*
+ * Makes a token that is not activated ready, if two passwords in a row belong
+ * to its large window. The accepted step is that of the second one.
+ *
+ * Returns DL_ACTIVATED, with the step and the offset as values, or
+ * DL_BAD_ARGUMENT, DL_NO_TOKEN, DL_DAMAGED_ROW, DL_TOKEN_READY,
+ * DL_TOKEN_LOCKED, DL_TOKEN_SUSPENDED, DL_TOKEN_VOID, DL_TOKEN_EXPIRED,
+ * DL_MANAGEMENT_USED or DL_MANAGEMENT_WRONG.
+ */
+uint16_t dl_activate(uint8_t *table, size_t table_len, uint64_t serial,
+                     uint64_t now,
+                     const uint8_t *password, size_t password_len,
+                     const uint8_t *following, size_t following_len,
+                     int64_t *values, size_t values_len);
+
+/*
+ * Locks a ready token by hand; no wait opens this lock.
+ *
+ * Returns DL_LOCKED, DL_BAD_ARGUMENT, DL_NO_TOKEN, DL_DAMAGED_ROW,
+ * DL_TOKEN_LOCKED, DL_TOKEN_SUSPENDED, DL_TOKEN_NOT_ACTIVATED or
+ * DL_TOKEN_VOID.
+ */
+uint16_t dl_lock(uint8_t *table, size_t table_len, uint64_t serial,
+                 uint64_t now);
+
+/*
+ * Makes a locked token ready, if the password belongs to its small window.
+ *
+ * Returns DL_UNLOCKED, with the step and the offset as values, or
+ * DL_BAD_ARGUMENT, DL_NO_TOKEN, DL_DAMAGED_ROW, DL_TOKEN_READY,
+ * DL_TOKEN_SUSPENDED, DL_TOKEN_NOT_ACTIVATED, DL_TOKEN_VOID,
+ * DL_TOKEN_EXPIRED, DL_MANAGEMENT_USED or DL_MANAGEMENT_WRONG.
+ */
+uint16_t dl_unlock(uint8_t *table, size_t table_len, uint64_t serial,
+                   uint64_t now,
+                   const uint8_t *password, size_t password_len,
+                   int64_t *values, size_t values_len);
+
+/*
+ * Suspends a token that is ready or locked.
+ *
+ * Returns DL_SUSPENDED, DL_BAD_ARGUMENT, DL_NO_TOKEN, DL_DAMAGED_ROW,
+ * DL_TOKEN_SUSPENDED, DL_TOKEN_NOT_ACTIVATED or DL_TOKEN_VOID.
+ */
+uint16_t dl_suspend(uint8_t *table, size_t table_len, uint64_t serial,
+                    uint64_t now);
+
+/*
+ * Makes a suspended token ready, if the password belongs to its small window.
+ *
+ * Returns DL_RESUMED, with the step and the offset as values, or
+ * DL_BAD_ARGUMENT, DL_NO_TOKEN, DL_DAMAGED_ROW, DL_TOKEN_READY,
+ * DL_TOKEN_LOCKED, DL_TOKEN_NOT_ACTIVATED, DL_TOKEN_VOID, DL_TOKEN_EXPIRED,
+ * DL_MANAGEMENT_USED or DL_MANAGEMENT_WRONG.
+ */
+uint16_t dl_resume(uint8_t *table, size_t table_len, uint64_t serial,
+                   uint64_t now,
+                   const uint8_t *password, size_t password_len,
+                   int64_t *values, size_t values_len);
+
+/*
+ * Takes over the offset of a token that is ready or locked, if two passwords
+ * in a row belong to its medium or large window. The accepted step is that of
+ * the second one, and the state is kept.
+ *
+ *   choice     DL_SYNC_MEDIUM or DL_SYNC_LARGE
+ *
+ * Returns DL_SYNCHRONIZED, with the step and the offset as values, or
+ * DL_BAD_ARGUMENT, DL_NO_TOKEN, DL_DAMAGED_ROW, DL_TOKEN_SUSPENDED,
+ * DL_TOKEN_NOT_ACTIVATED, DL_TOKEN_VOID, DL_TOKEN_EXPIRED,
+ * DL_MANAGEMENT_USED or DL_SYNC_WRONG.
+ */
+uint16_t dl_sync(uint8_t *table, size_t table_len, uint64_t serial,
+                 uint64_t now, uint8_t choice,
+                 const uint8_t *password, size_t password_len,
+                 const uint8_t *following, size_t following_len,
+                 int64_t *values, size_t values_len);
+
+/*
+ * Makes a token void for good and wipes its key from the row, which stays
+ * taken.
+ *
+ * Returns DL_VOIDED, DL_BAD_ARGUMENT, DL_NO_TOKEN, DL_DAMAGED_ROW or
+ * DL_TOKEN_VOID.
+ */
+uint16_t dl_void(uint8_t *table, size_t table_len, uint64_t serial,
+                 uint64_t now);
+
+/*
+ * Reports a token in any state, as it is once a wait has run out by now. It
+ * writes nothing to the table.
+ *
+ *   values     takes the state (DL_STATE_NOT_ACTIVATED to DL_STATE_VOID), the
+ *              errors and the clock of the last accepted password, 0 if there
+ *              was none; values_len is 3 or more
+ *
+ * Returns DL_QUERIED, DL_BAD_ARGUMENT, DL_NO_TOKEN or DL_DAMAGED_ROW.
+ */
+uint16_t dl_query(const uint8_t *table, size_t table_len, uint64_t serial,
+                  uint64_t now, int64_t *values, size_t values_len);
 
 #ifdef __cplusplus
 }

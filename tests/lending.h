@@ -14,12 +14,14 @@ static union {
     uint8_t bytes[ROOM];
     uint32_t words[ROOM / WORD];
     uint64_t long_words[ROOM / LONG_WORD];
+    int64_t signed_words[ROOM / LONG_WORD];
 } now;
 static uint8_t was[ROOM];
 
 static uint8_t *const lent = now.bytes + BEFORE;
 static uint32_t *const lent_words = now.words + BEFORE / WORD;
 static uint64_t *const lent_long_words = now.long_words + BEFORE / LONG_WORD;
+static int64_t *const lent_signed_words = now.signed_words + BEFORE / LONG_WORD;
 
 static inline void lend(void)
 {
@@ -27,12 +29,18 @@ static inline void lend(void)
     memcpy(now.bytes, was, ROOM);
 }
 
-// The call answered DL_DONE, wrote this result, and left every other byte as it was.
-static inline int gave(uint16_t code, const void *result, size_t n)
+// The call wrote this result and left every other byte as it was.
+static inline int wrote(const void *result, size_t n)
 {
     const size_t end = BEFORE + n;
-    return code == DL_DONE && memcmp(lent, result, n) == 0 && memcmp(now.bytes, was, BEFORE) == 0
+    return memcmp(lent, result, n) == 0 && memcmp(now.bytes, was, BEFORE) == 0
         && memcmp(now.bytes + end, was + end, ROOM - end) == 0;
+}
+
+// The call answered DL_DONE, and wrote this result and no more.
+static inline int gave(uint16_t code, const void *result, size_t n)
+{
+    return code == DL_DONE && wrote(result, n);
 }
 
 // The call answered this code, which is no DL_DONE, and wrote nothing.

@@ -101,6 +101,13 @@ static inline void check(int same, const char *call, ...)
     va_end(values);
 }
 
+// Counts as a comparison only where it fails, so that the tests' counts are those of the calls.
+static inline void require(int holds, const char *what)
+{
+    if (!holds)
+        check(0, "%s", what);
+}
+
 // Runs one test; it passes if it compared something and nothing differed.
 static inline int passes(const struct test *test)
 {

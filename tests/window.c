@@ -3,6 +3,7 @@
 //   window         the full run: 5,000 cases to most tests
 //   window COUNT   the short run, for valgrind: COUNT cases, fewer steps with the same password, no long buffers
 #define _DEFAULT_SOURCE
+#include "answers.h"
 #include "lending.h"
 #include "window_twins.h"
 
@@ -12,42 +13,23 @@ enum { BYTES = 256 };
 
 enum { DONE = 1, USED = 2, WRONG = 4, BAD = 8, TOO_FAR = 16 };
 
-static struct {
-    uint16_t code;
-    unsigned bit;
-    const char *name;
-    long times;
-} answers[] = {{DL_DONE, DONE, "done", 0},
-               {DL_USED, USED, "used", 0},
-               {DL_WRONG, WRONG, "wrong", 0},
-               {DL_BAD_ARGUMENT, BAD, "bad argument", 0},
-               {DL_TOO_FAR, TOO_FAR, "too far", 0}};
+static struct answer answers[] = {{DL_DONE, DONE, "done", 0, 0},
+                                  {DL_USED, USED, "used", 0, 0},
+                                  {DL_WRONG, WRONG, "wrong", 0, 0},
+                                  {DL_BAD_ARGUMENT, BAD, "bad argument", 0, 0},
+                                  {DL_TOO_FAR, TOO_FAR, "too far", 0, 0}};
 
 enum { ANSWERS = sizeof answers / sizeof *answers };
 
 static void count_answer(uint16_t code)
 {
-    for (size_t i = 0; i < ANSWERS; i++)
-        answers[i].times += answers[i].code == code;
+    add_answer(answers, ANSWERS, code);
 }
 
-// Counts as a comparison only where it fails, so that the tests' counts are those of the calls.
-static void require(int holds, const char *what)
-{
-    if (!holds)
-        check(0, "%s", what);
-}
-
-// The end of every test: each of these answers came up. DL_TOO_FAR never does, since no candidate is so far.
+// DL_TOO_FAR never comes up, since no candidate is so far.
 static void came_up(unsigned wanted)
 {
-    for (size_t i = 0; i < ANSWERS; i++) {
-        printf(i == 0 ? "     %ld %s" : ", %ld %s", answers[i].times, answers[i].name);
-        require(answers[i].times > 0 || !(wanted & answers[i].bit), "an answer never came up");
-        require(answers[i].times == 0 || answers[i].bit != TOO_FAR, "DL_TOO_FAR came up");
-        answers[i].times = 0;
-    }
-    printf("\n");
+    end_answers(answers, ANSWERS, wanted, TOO_FAR);
 }
 
 // ---- calls and their comparison
