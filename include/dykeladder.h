@@ -189,11 +189,12 @@ uint16_t dl_check(uint8_t kind, uint8_t algorithm, uint8_t digits,
  *              range, and wrong
  *   following  the password of the step after it, likewise
  *   values     takes what a success carries in its first elements; all others
- *              stay as they were, and all of them when the call is refused
+ *              stay as they were, and all of them when the call is refused;
+ *              values_len is DL_MOST_VALUES or more
  *
  * A call with a password is a checked call. It carries two values: the
  * accepted step, and the token's offset d from the clock's step, -600 to 600
- * (0 for an event token); values_len is 2 or more.
+ * (0 for an event token).
  *
  * A token locked by errors becomes ready, with errors 0, once its wait has run
  * out: when now is after the time of the lock by the wait or more. Every call
@@ -206,6 +207,7 @@ uint16_t dl_check(uint8_t kind, uint8_t algorithm, uint8_t digits,
 #define DL_MOST_ROWS      256
 #define DL_CHECKED_VALUES 2 /* the accepted step, the offset */
 #define DL_QUERY_VALUES   3 /* the state, the errors, the last use */
+#define DL_MOST_VALUES    3
 
 /* States of a token. */
 #define DL_STATE_EMPTY            0 /* no token */
@@ -403,7 +405,7 @@ uint16_t dl_void(uint8_t *table, size_t table_len, uint64_t serial,
  *
  *   values     takes the state (DL_STATE_NOT_ACTIVATED to DL_STATE_VOID), the
  *              errors and the clock of the last accepted password, 0 if there
- *              was none; values_len is 3 or more
+ *              was none
  *
  * Returns DL_QUERIED, DL_BAD_ARGUMENT, DL_NO_TOKEN or DL_DAMAGED_ROW.
  */

@@ -79,7 +79,7 @@ struct argument {
 static const struct argument inside[] = {
     {OF_ALL, set_table_len, DL_ROW_BYTES}, {OF_ALL, set_table_len, DL_ROW_BYTES * DL_MOST_ROWS}, {OF_ALL, set_serial, 0},
     {OF_ALL, set_serial, UINT64_MAX}, {OF_NAMED, set_now, 0}, {OF_NAMED, set_now, CLOCK_END - 1},
-    {OF_SYNC, set_choice, 1}, {OF_SYNC, set_choice, 2}, {OF_CHECKED, set_values_len, 2}, {OF_QUERY, set_values_len, 3},
+    {OF_SYNC, set_choice, 1}, {OF_SYNC, set_choice, 2}, {OF_CHECKED | OF_QUERY, set_values_len, DL_MOST_VALUES},
     {OF_CHECKED, set_password_len, 6}, {OF_CHECKED, set_password_len, 10}, {OF_CHECKED, set_password_byte, '0'},
     {OF_CHECKED, set_password_byte, '9'}, {OF_PAIRS, set_following_len, 6}, {OF_PAIRS, set_following_len, 10},
     {OF_PAIRS, set_following_byte, '0'}, {OF_PAIRS, set_following_byte, '9'}, {OF_CHALLENGE, set_challenge_len, 4},
@@ -96,7 +96,7 @@ static const struct argument outside[] = {
     {OF_ALL, set_table_len, DL_ROW_BYTES * DL_MOST_ROWS + 1}, {OF_ALL, set_table_len, DL_ROW_BYTES * (DL_MOST_ROWS + 1)},
     {OF_NAMED, set_now, CLOCK_END}, {OF_NAMED, set_now, UINT64_C(1) << 63}, {OF_NAMED, set_now, UINT64_MAX},
     {OF_SYNC, set_choice, 0}, {OF_SYNC, set_choice, 3}, {OF_SYNC, set_choice, 255},
-    {OF_CHECKED | OF_QUERY, set_values_len, 0}, {OF_CHECKED | OF_QUERY, set_values_len, 1}, {OF_QUERY, set_values_len, 2},
+    {OF_CHECKED | OF_QUERY, set_values_len, 0}, {OF_CHECKED | OF_QUERY, set_values_len, 1}, {OF_CHECKED | OF_QUERY, set_values_len, 2},
     {OF_CHECKED, set_password_len, 0}, {OF_CHECKED, set_password_len, 5}, {OF_CHECKED, set_password_len, 11},
     {OF_CHECKED, set_password_len, 256}, {OF_CHECKED, set_password_len, 262}, {OF_CHECKED, set_password_byte, '/'},
     {OF_CHECKED, set_password_byte, ':'}, {OF_CHECKED, set_password_byte, 'a'}, {OF_CHECKED, set_password_byte, 0},

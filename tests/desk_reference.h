@@ -145,7 +145,7 @@ static inline int desk_in_range(const struct desk_call *call)
         return 0;
     if (call->name == CALL_LOAD)
         return desk_load_in_range(&call->load);
-    return call->now < CLOCK_END && call->values_len >= desk_values(call->name)
+    return call->now < CLOCK_END && (desk_values(call->name) == 0 || call->values_len >= DL_MOST_VALUES)
         && (call->name != CALL_CHALLENGE_LOGIN || desk_challenge_in_range(&call->challenge))
         && (call->name != CALL_SYNC || call->choice == 1 || call->choice == 2)
         && (rule->check == NO_CHECK || desk_password_in_range(&call->password))

@@ -107,7 +107,7 @@ static inline void make_typed(struct row_case *made, size_t variant, token_maker
     struct window_call token;
     made->call = (struct desk_call){.table_len = DL_ROW_BYTES};
     name_call(&made->call, variant);
-    made->call.values_len = desk_values(made->call.name) + random_below(3);
+    made->call.values_len = DL_MOST_VALUES + random_below(3);
     random_load(&made->call.load);
     do {
         make(&token);
