@@ -2,6 +2,7 @@
 mod checking;
 mod desk_calls;
 mod store;
+mod values;
 
 use otp::Factor;
 use otp::password;

@@ -92,6 +92,8 @@ pub record Told (answer : Answer) (c : Checking) (next : ℕ) (hits : ℕ → Bo
   pub smallest : (x : ℕ) → next ≤ x → hits x ≡ true → ((y : ℕ) → next ≤ y → y < x → hits y ≡ false) → stepOf answer ≡ some (x + c .ahead)
   pub used : Exactly (numberOf answer ≡ c .used) (((x : ℕ) → next ≤ x → hits x ≡ false) × ((x : ℕ) × ((x < next) × (hits x ≡ true))))
   pub wrong : Exactly (numberOf answer ≡ c .wrong) ((x : ℕ) → hits x ≡ false)
+  -- and nothing else is said
+  pub listed : oneOf (numberOf answer) (c .success ∷ c .used ∷ c .wrong ∷ []) ≡ true
 
 abbrev pub Demand2 : Type 0
 Demand2 =

@@ -6,7 +6,7 @@ use mathlib.Core.List.{List, [], _∷_}
 use mathlib.Core.Option.{Option, none, some}
 use native.Mathlib.Nat.{add-zero}
 use native.Mathlib.Omega.{arith}
-use borrow.Author.Tests.{eqb-true, eqb-false, leb-true, ltb-true, le-leb, lt-ltb, lt-leb, not-true}
+use borrow.Author.Tests.{eq-eqb, eqb-true, eqb-false, leb-true, ltb-true, le-leb, lt-ltb, lt-leb, not-true}
 use lib.Dec.{eqb, leb, ltb}
 use Rattle.words.specs.ListsLaws.{by-test, and-false}
 use Rattle.words.specs.Tables.{every, and-left, and-right}
@@ -20,7 +20,7 @@ use Rattle.window.specs.PasswordAt.{PasswordRule, hasBy}
 use Rattle.window.specs.Check.{smallest, freshHit, usedHit, singleHit, pairHit}
 use Rattle.window.specs.CheckLaws.{Found, found, missing, smallest-found, clash}
 use Rattle.window.specs.TokenCheck.{singleCheck, pairCheck}
-use Rattle.window.specs.Meaning.{Never, First, single-accepted-exactly, single-used-exactly, single-wrong-exactly, pair-accepted-exactly, pair-used-exactly, pair-wrong-exactly}
+use Rattle.window.specs.Meaning.{Never, First, single-accepted-exactly, single-used-exactly, single-wrong-exactly, single-never-too-far, pair-accepted-exactly, pair-used-exactly, pair-wrong-exactly, pair-never-too-far}
 use Rattle.row.specs.declared.Row.{Row}
 use Rattle.row.specs.Row.{rowAt}
 use Rattle.token.specs.declared.calls.Call.{Call}
@@ -30,6 +30,7 @@ use Rattle.token.specs.States.{waitOver, waited}
 use Rattle.token.specs.StatesLaws.{waited-track}
 use Rattle.token.specs.Serving.{judging, timely, checking, permitted, serving, served}
 use Rattle.token.specs.OnTable.{secretAt, servedAt}
+use Rattle.token.specs.OnTableLaws.{or-true}
 use Rattle.desk.specs.Requests.{Request, DeskCall}
 use Rattle.desk.specs.Desk.{requestedAt, deskAfter}
 use Rattle.words.specs.Lists.{oneOf}
@@ -45,6 +46,7 @@ module _ (hit : ℕ → Bool) (ahead next : ℕ) where
     used : (o ≡ Outcome.Used → Never (freshHit hit next) × ((s : ℕ) × (usedHit hit next s ≡ true)))
         × (Never (freshHit hit next) → (s : ℕ) → usedHit hit next s ≡ true → o ≡ Outcome.Used)
     wrong : (o ≡ Outcome.Wrong → Never hit) × (Never hit → o ≡ Outcome.Wrong)
+    near : o ≡ Outcome.TooFar → ⊥
 
 module _ (k : Track) (clock : ℕ) (size : Size) where
   single-meant : (matches : ℕ → Bool) → Meant (singleHit (candidate k clock size) matches) 0 (k .next .0) (singleCheck k clock size matches)
@@ -54,6 +56,7 @@ module _ (k : Track) (clock : ℕ) (size : Size) where
         accepted = (λ a e. (a .0, law .0 a e), λ s f. rw (add-zero s) (law .1 s f));
         used = single-used-exactly k clock size matches;
         wrong = single-wrong-exactly k clock size matches;
+        near = single-never-too-far k clock size matches;
       }
 
   pair-meant : (first second : ℕ → Bool) → Meant (pairHit (candidate k clock size) first second) 1 (k .next .0) (pairCheck k clock size first second)
@@ -63,6 +66,7 @@ module _ (k : Track) (clock : ℕ) (size : Size) where
         accepted = (λ a e. let l = law .0 a e in (l .0, l .1 .1), law .1);
         used = pair-used-exactly k clock size first second;
         wrong = pair-wrong-exactly k clock size first second;
+        near = pair-never-too-far k clock size first second;
       }
 
 -- a number that passes leads to the smallest one
@@ -125,6 +129,13 @@ module _ (call : Call) (row : Row) (clock : ℕ) (c : Checking) (codes : Coded c
   told-wrong Outcome.Used e = absurd (omega arith)
   told-wrong Outcome.Wrong e = refl
 
+  told-one : (o : Outcome) → (o ≡ Outcome.TooFar → ⊥) → oneOf (code o) (c .success ∷ c .used ∷ c .wrong ∷ []) ≡ true
+  told-one (Outcome.Accepted a) h = rw (codes .success, eq-eqb (c .success) (c .success) refl)
+  told-one Outcome.TooFar h = absurd (h refl)
+  told-one Outcome.Used h = rw (codes .used, eq-eqb (c .used) (c .used) refl) (or-true (eqb (c .used) (c .success)))
+  told-one Outcome.Wrong h =
+      rw (codes .wrong, eq-eqb (c .wrong) (c .wrong) refl, or-true (eqb (c .wrong) (c .used))) (or-true (eqb (c .wrong) (c .success)))
+
   module _ (hit : ℕ → Bool) (next : ℕ) (o : Outcome) (meant : Meant hit (c .ahead) next o) where
     fresh : (x : ℕ) → next ≤ x → hit x ≡ true → freshHit hit next x ≡ true
     fresh x l t = and-both (le-leb next x l) t
@@ -157,6 +168,7 @@ module _ (call : Call) (row : Row) (clock : ℕ) (c : Checking) (codes : Coded c
                 rw (meant .used .1 (λ y. not-fresh y (h .0 y)) (x .0) (and-both (lt-ltb (x .0) next (x .1 .0)) (x .1 .1))) (codes .used),
           );
           wrong = (λ e. meant .wrong .0 (told-wrong o e), λ h. rw (meant .wrong .1 h) (codes .wrong));
+          listed = told-one o (meant .near);
         }
 
 -- ---- a ready call is judged

@@ -6,16 +6,16 @@ use mathlib.Core.List.{List, _++_, append-assoc}
 use native.Mathlib.Omega.{arith}
 use borrow.Author.Tests.{ne-eqb}
 use lib.Dec.{eqb}
-use lib.ListN.{length, getD, set, take, drop, replicate, length-append}
+use lib.ListN.{length, getD, take, drop, replicate, length-append}
 use lib.Seq.{take-at, drop-at, drop-drop, take-take}
 use Rattle.words.specs.Lists.{allZero}
-use Rattle.words.specs.Bytes.{beAt, beBytes, putBe}
-use Rattle.words.specs.BytesLaws.{set-behind, putBe-behind}
+use Rattle.words.specs.Bytes.{beAt, beBytes}
 use Rattle.row.specs.declared.Row.{Row}
 use Rattle.row.specs.Row.{keyBytes, rowAt, keyAt, beforeKey, stepBytes, timeBytes, render, numbersOk, zerosOk, wellFormed}
 use Rattle.row.specs.RowLaws.{InWidths, numbers-parsed, key-parsed, length-in-range}
 use Rattle.row.specs.StoreLaws.{length-beforeKey}
-use Rattle.row.specs.TableLaws.{SameParticulars}
+use Rattle.row.specs.TableLaws.{SameParticulars, store-behind}
+use Rattle.row.specs.TableLaws as tables
 use Rattle.row.specs.Table.{hasSerial, isEmpty, storeRow, wipeKey}
 use Rattle.token.specs.OnTable.{secretAt}
 
@@ -84,38 +84,10 @@ module _ (s : List ℕ) (at : ℕ) (r : Row) (key before behind : List ℕ) (sta
 
   -- ---- what is stored
 
-  module _ (q : Row) (same : SameParticulars q r) where
-    -- the numbers before the key, those of the row and those stored over them
-    head-stored : (t : List ℕ) → set (set (beforeKey r ++ t) 0 (q .state)) 6 (q .errors) ≡ beforeKey q ++ t
-    unfolding beforeKey
-    head-stored t = rw (same .rule, same .period, same .limit, same .length, same .serial)
-
-    rest-stored : (t : List ℕ)
-        → putBe 8 (putBe 8 (putBe 2 (putBe 8 (stepBytes r ++ (timeBytes r ++ t)) 0 (q .track .next .0)) 8 (q .track .offset .0)) 24 (q .locked .0)) 32 (q .used .0)
-        ≡ stepBytes q ++ (timeBytes q ++ t)
-    unfolding stepBytes timeBytes beBytes putBe
-    rest-stored t = rw (same .wait, same .expiry)
-
-    later-stored : (front t : List ℕ) (n : ℕ) → length front ≡ n
-        → putBe 8 (putBe 8 (putBe 2 (putBe 8 (front ++ (stepBytes r ++ (timeBytes r ++ t))) (n + 0) (q .track .next .0)) (n + 8) (q .track .offset .0)) (n + 24) (q .locked .0)) (n + 32) (q .used .0)
-        ≡ front ++ (stepBytes q ++ (timeBytes q ++ t))
-    later-stored front t n e = simp putBe-behind (ap (λ (x : List ℕ). front ++ x) (rest-stored t))
-
-    pub row-stored : storeRow s at q ≡ before ++ (render q key ++ behind)
-    unfolding storeRow render
-    row-stored =
-        let y = stepBytes r ++ (timeBytes r ++ behind) in
-        let front = (before ++ beforeKey q) ++ key in
-        let begun : set (set s (at + 0) (q .state)) (at + 6) (q .errors) ≡ front ++ y =
-        (let whole : s ≡ before ++ (beforeKey r ++ (key ++ y)) = whole-here ∙ append-assoc before (beforeKey r) (key ++ y) in
-        rw (whole, set-behind before (beforeKey r ++ (key ++ y)) 0 (q .state) place, set-behind before (set (beforeKey r ++ (key ++ y)) 0 (q .state)) 6 (q .errors) place, head-stored (key ++ y))
-        (simp append-assoc)) in
-        let l : length front ≡ at + 48 = rw (length-append, length-append, place, length-beforeKey q, long) (omega arith) in
-        let e : at + 48 ≡ at + 48 + 0 = omega arith in
-        let f : at + 56 ≡ at + 48 + 8 = omega arith in
-        let g : at + 72 ≡ at + 48 + 24 = omega arith in
-        let h : at + 80 ≡ at + 48 + 32 = omega arith in
-        rw (begun, e, f, g, h) (later-stored front behind (at + 48) l ∙ simp append-assoc)
+  pub row-stored : (q : Row) → SameParticulars q r → storeRow s at q ≡ before ++ (render q key ++ behind)
+  row-stored q same =
+      ap (λ (t : List ℕ). storeRow t at q) stands ∙ store-behind before (render r key ++ behind) at q place
+      ∙ ap (λ (t : List ℕ). before ++ t) (tables.row-stored r q same key behind long)
 
   pub key-wiped : wipeKey s at ≡ before ++ (render r (replicate keyBytes 0) ++ behind)
   unfolding wipeKey render

@@ -136,7 +136,7 @@ pub record SameParticulars (r q : Row) : Type 0 where
   pub wait : r .wait ≡ q .wait
   pub expiry : r .expiry ≡ q .expiry
 
-store-behind : (a s : List ℕ) (at : ℕ) (r : Row) → length a ≡ at → storeRow (a ++ s) at r ≡ a ++ storeRow s 0 r
+pub store-behind : (a s : List ℕ) (at : ℕ) (r : Row) → length a ≡ at → storeRow (a ++ s) at r ≡ a ++ storeRow s 0 r
 unfolding storeRow
 store-behind a s at r e = simp (set-behind, putBe-behind)
 
@@ -151,7 +151,7 @@ module _ (q r : Row) (same : SameParticulars r q) where
   unfolding stepBytes timeBytes beBytes putBe
   rest-stored t = rw (same .wait, same .expiry)
 
-  row-stored : (key t : List ℕ) → length key ≡ 32 → storeRow (render q key ++ t) 0 r ≡ render r key ++ t
+  pub row-stored : (key t : List ℕ) → length key ≡ 32 → storeRow (render q key ++ t) 0 r ≡ render r key ++ t
   unfolding storeRow render
   row-stored key t l =
       let front = beforeKey r ++ key in

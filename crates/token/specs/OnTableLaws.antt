@@ -28,7 +28,7 @@ use Rattle.token.specs.declared.serving.Served.{Served}
 use Rattle.token.specs.Serving.{served, querying}
 use Rattle.token.specs.OnTable.{wipes, secretAt, servedAt, queriedAt}
 
-or-true : (b : Bool) → b || true ≡ true
+pub or-true : (b : Bool) → b || true ≡ true
 or-true true = refl
 or-true false = refl
 

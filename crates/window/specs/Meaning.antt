@@ -118,6 +118,15 @@ module _ (far hit : ℕ → Bool) (ahead next n : ℕ) (bounded : (r : ℕ) → 
       back Used (used s i u) h = clash (and-right (ltb s next) (hit s) u) (h s)
       back Wrong (never i) h = refl
 
+  -- no match would set d past 600 either way
+  pub never-too-far : settled far ahead (checked hit next n) ≡ TooFar → ⊥
+  never-too-far e = otherwise (settled far ahead (checked hit next n)) reason e
+    where
+      otherwise : (o : Outcome) → Reason o → o ≡ TooFar → ⊥
+      otherwise (Accepted x) (fresh f) e = let z : _≡_ {A = ℕ} 0 1 = cc in absurd (omega arith)
+      otherwise Used (used s h u) e = let z : _≡_ {A = ℕ} 0 1 = cc in absurd (omega arith)
+      otherwise Wrong (never h) e = let z : _≡_ {A = ℕ} 0 1 = cc in absurd (omega arith)
+
 -- ---- a token's candidates
 
 module _ (k : Track) (clock : ℕ) (size : Size) where
@@ -168,6 +177,10 @@ module _ (k : Track) (clock : ℕ) (size : Size) where
     unfolding singleCheck
     single-wrong-exactly = wrong-exactly (tooFar k clock) (singleHit (candidate k clock size) matches) 0 (k .next .0) (beyond k clock) single-bounded single-near
 
+    pub single-never-too-far : singleCheck k clock size matches ≡ TooFar → ⊥
+    unfolding singleCheck
+    single-never-too-far = never-too-far (tooFar k clock) (singleHit (candidate k clock size) matches) 0 (k .next .0) (beyond k clock) single-bounded single-near
+
   module _ (first second : ℕ → Bool) where
     both-candidates : (s : ℕ) → pairHit (candidate k clock size) first second s ≡ true → (candidate k clock size s ≡ true) × (candidate k clock size (s + 1) ≡ true)
     both-candidates s t =
@@ -201,3 +214,7 @@ module _ (k : Track) (clock : ℕ) (size : Size) where
     pub pair-wrong-exactly : (pairCheck k clock size first second ≡ Wrong → Never (pairHit (candidate k clock size) first second)) × (Never (pairHit (candidate k clock size) first second) → pairCheck k clock size first second ≡ Wrong)
     unfolding pairCheck
     pair-wrong-exactly = wrong-exactly (tooFar k clock) (pairHit (candidate k clock size) first second) 1 (k .next .0) (beyond k clock) pair-bounded pair-near
+
+    pub pair-never-too-far : pairCheck k clock size first second ≡ TooFar → ⊥
+    unfolding pairCheck
+    pair-never-too-far = never-too-far (tooFar k clock) (pairHit (candidate k clock size) first second) 1 (k .next .0) (beyond k clock) pair-bounded pair-near

@@ -2,8 +2,8 @@ use native.Mathlib.Omega.{arith}
 use lib.ListN.{length-set}
 use Rattle.capi.specs.DeskLeftLaws.{plain-written, checked-written, told-written}
 use borrow.Author.Needs.{needs}
-use Rattle.capi.proofs.desk_calls.put_content.Statement.{statement}
-use Rattle.capi.proofs.desk_calls.put_content.Tie as tie
+use Rattle.capi.proofs.values.put_content.Statement.{statement}
+use Rattle.capi.proofs.values.put_content.Tie as tie
 
 enum-told : tie.Need-enum-told
 enum-told c = search needs

@@ -1,7 +1,7 @@
 use Rattle.capi.specs.DeskLeftLaws.{word-ahead, word-behind}
 use borrow.Author.Needs.{needs}
-use Rattle.capi.proofs.desk_calls.signed.Statement.{statement}
-use Rattle.capi.proofs.desk_calls.signed.Tie as tie
+use Rattle.capi.proofs.values.signed.Statement.{statement}
+use Rattle.capi.proofs.values.signed.Tie as tie
 
 cast-held : tie.Need-cast-held
 cast-held c = search needs

@@ -1,6 +1,6 @@
 use borrow.Author.Needs.{needs}
-use Rattle.capi.proofs.desk_calls.put_answer.Statement.{statement}
-use Rattle.capi.proofs.desk_calls.put_answer.Tie as tie
+use Rattle.capi.proofs.values.put_answer.Statement.{statement}
+use Rattle.capi.proofs.values.put_answer.Tie as tie
 
 enum-known-answer : tie.Need-enum-known-answer
 enum-known-answer c = search needs
