@@ -1,6 +1,7 @@
 # make          prove and build everything, then show the hash, the cipher and the line program at work
 # make test     all tests; the last line is 'N passed, M failed'
 # make bench    the times beside other libraries; writes docs/BENCHMARKS.md
+# make install [PREFIX=/usr/local] [DESTDIR=]   the C library: archive, header, pkg-config file; make uninstall removes them
 # make check NAME=crate   prove one crate and what it depends on
 # make fmt      lay out every file of the crates
 # make clean    remove what was built
@@ -8,7 +9,7 @@
 SHELL := bash
 .SHELLFLAGS := -o pipefail -c
 
-.PHONY: show test bench check fmt clean
+.PHONY: show test bench install uninstall check fmt clean
 
 # Lines key,T,C,Q,algorithm,digits of the line program: document 01's example, then ten digits, SM3, a count alone, a key too short.
 key := 1234567890abcdef1234567890abcdef
@@ -28,6 +29,26 @@ test:
 
 bench:
 	@bench/run
+
+# The C library under the project's name. Its version stands in the header.
+PREFIX ?= /usr/local
+prefix = $(abspath $(PREFIX))
+archive := target/staticlib/libcapi.a
+version = $(shell sed -n 's/^\#define DL_VERSION  *"\(.*\)"/\1/p' include/dykeladder.h)
+installed = $(addprefix $(DESTDIR)$(prefix)/,lib/libdykeladder.a include/dykeladder.h lib/pkgconfig/dykeladder.pc)
+
+$(archive):
+	@rt staticlib capi
+
+install: $(archive)
+	@install -d $(sort $(dir $(installed)))
+	@install -m 644 $(archive) $(word 1,$(installed))
+	@install -m 644 include/dykeladder.h $(word 2,$(installed))
+	@sed 's|@PREFIX@|$(prefix)|; s|@VERSION@|$(version)|' include/dykeladder.pc.in | install -m 644 /dev/stdin $(word 3,$(installed))
+	@printf 'installed %s\n' $(installed)
+
+uninstall:
+	@rm -f $(installed)
 
 check:
 	@rt check $(NAME)

@@ -3,18 +3,25 @@
  * (GB/T 32907-2016), the one-time password (GM/T 0021-2012) and the
  * release-signing token desk over a table of tokens.
  *
- * Every buffer is lent as a pointer and a length in elements, and every call
- * returns one code. DL_DONE: the result is written and every byte past it is
- * as it was; the desk's calls have a code of success each. DL_BAD_ARGUMENT: a
- * length or a value is out of range and nothing is written. There is none that
- * the caller has to filter beforehand.
+ * Every call returns a code. A success is DL_DONE or, at the desk, the code of
+ * its call: the result is written, and every byte past it is as it was. All
+ * other codes are refusals, and dl_refused tells them apart. DL_BAD_ARGUMENT
+ * is the refusal of a length or a value out of range, and nothing is written.
+ * So a caller has nothing to test beforehand; what he owes is this:
  *
- * The pointers are the caller's part: each must point to as many elements as
- * its length says and must not be null, not even for a length of 0; a buffer
- * that is written must not overlap another argument.
+ * Buffers. Each is lent as a pointer and a length, counted in elements. The
+ * pointer leads to that many elements, aligned as their type is; it may be
+ * null if the length is 0. A buffer that the call may write, one that is not
+ * const, must not overlap another argument. Those that are only read may.
  *
- * No call allocates, keeps anything between calls, or reads more than its
- * arguments: any number of threads may call at once.
+ * Threads. The library has no state of its own, so calls on buffers of their
+ * own may run at the same time. While a call may write a buffer, nothing else
+ * may read or write it: a table is in one call at a time, but for dl_query,
+ * which only reads it.
+ *
+ * Memory. No call allocates, and none keeps a pointer when it has returned.
+ * Copies of keys on the stack are not wiped, and the time of a call may depend
+ * on what it reads.
  */
 #ifndef DYKELADDER_H
 #define DYKELADDER_H
@@ -26,12 +33,104 @@
 extern "C" {
 #endif
 
-/* Codes. */
-#define DL_DONE         0x0000 /* the result is written */
-#define DL_BAD_ARGUMENT 0x9005 /* an argument is out of range; nothing is written */
-#define DL_WRONG        0x8002 /* no step of the window has the password */
-#define DL_USED         0x8004 /* only steps before the first unused one have it */
-#define DL_TOO_FAR      0x8106 /* the step lies more than 600 from the clock's */
+/* The version of this header; as a number 0xMMmmpp, to be compared. */
+#define DL_VERSION        "0.1.0"
+#define DL_VERSION_NUMBER 0x000100
+
+/* The version that the program was compiled with, DL_VERSION. */
+static inline const char *dl_version(void)
+{
+    return DL_VERSION;
+}
+
+/* Success of the hash, the cipher, the password and the check. */
+#define DL_DONE 0x0000 /* the result is written */
+
+/* Successes of the desk, one for each call. */
+#define DL_LOGGED_IN     0x0001 /* dl_login */
+#define DL_CHALLENGE_MET 0x0002 /* dl_challenge_login */
+#define DL_ACTIVATED     0x0101 /* dl_activate */
+#define DL_LOCKED        0x0102 /* dl_lock */
+#define DL_UNLOCKED      0x0103 /* dl_unlock */
+#define DL_SUSPENDED     0x0104 /* dl_suspend */
+#define DL_RESUMED       0x0105 /* dl_resume */
+#define DL_SYNCHRONIZED  0x0108 /* dl_sync */
+#define DL_VOIDED        0x010a /* dl_void */
+#define DL_QUERIED       0x010b /* dl_query */
+#define DL_LOADED        0x0140 /* dl_load */
+
+/*
+ * Refusals, in the order in which they are tested. Those down to
+ * DL_DAMAGED_ROW leave every byte as it was, the next ones all but what a wait
+ * that has run out sets (see "The desk" below).
+ */
+#define DL_BAD_ARGUMENT        0x9005 /* a length or a value is out of range */
+#define DL_SERIAL_TAKEN        0x8411 /* dl_load: a row that is not empty has the serial */
+#define DL_TABLE_FULL          0x8410 /* dl_load: no row is empty */
+#define DL_NO_TOKEN            0x8402 /* no row that is not empty has the serial */
+#define DL_DAMAGED_ROW         0x8403 /* the token's row is not well formed */
+#define DL_TOKEN_READY         0x8409 /* the call needs another state: the token is ready */
+#define DL_TOKEN_LOCKED        0x8404 /* the same: it is locked, by errors or by hand */
+#define DL_TOKEN_SUSPENDED     0x8405 /* the same: it is suspended */
+#define DL_TOKEN_NOT_ACTIVATED 0x8406 /* the same: it is not activated */
+#define DL_TOKEN_VOID          0x8407 /* the same: it is void */
+#define DL_TOKEN_EXPIRED       0x8408 /* a checked call at or after the expiry */
+
+/*
+ * The last refusals are those of the check. At the desk each of them but
+ * DL_TOO_FAR adds 1 to the token's errors, which end at 255; if it was one of
+ * the two logins and the errors are then at or above the limit, the token is
+ * locked by errors at now.
+ */
+#define DL_TOO_FAR          0x8106 /* the step lies more than 600 from the clock's; no candidate does, so it never comes */
+#define DL_USED             0x8004 /* only steps before the first unused one match: dl_check and the two logins */
+#define DL_WRONG            0x8002 /* no step of the window matches: the same */
+#define DL_MANAGEMENT_USED  0x8104 /* as DL_USED, of the other checked calls */
+#define DL_MANAGEMENT_WRONG 0x8102 /* as DL_WRONG, of dl_activate, dl_unlock, dl_resume */
+#define DL_SYNC_WRONG       0x8105 /* as DL_WRONG, of dl_sync */
+
+/* 1 if the code is a refusal, 0 if it is a success. */
+static inline int dl_refused(uint16_t code)
+{
+    return code >= 0x8000;
+}
+
+/* A code in a few English words, for logs and messages; of any other number "unknown code". */
+static inline const char *dl_code_text(uint16_t code)
+{
+    switch (code) {
+    case DL_DONE: return "done";
+    case DL_LOGGED_IN: return "logged in";
+    case DL_CHALLENGE_MET: return "logged in by challenge";
+    case DL_ACTIVATED: return "activated";
+    case DL_LOCKED: return "locked by hand";
+    case DL_UNLOCKED: return "unlocked";
+    case DL_SUSPENDED: return "suspended";
+    case DL_RESUMED: return "resumed";
+    case DL_SYNCHRONIZED: return "synchronized";
+    case DL_VOIDED: return "made void";
+    case DL_QUERIED: return "queried";
+    case DL_LOADED: return "loaded";
+    case DL_BAD_ARGUMENT: return "bad argument";
+    case DL_SERIAL_TAKEN: return "the serial is taken";
+    case DL_TABLE_FULL: return "the table is full";
+    case DL_NO_TOKEN: return "no token has the serial";
+    case DL_DAMAGED_ROW: return "the token's row is damaged";
+    case DL_TOKEN_READY: return "the token is ready";
+    case DL_TOKEN_LOCKED: return "the token is locked";
+    case DL_TOKEN_SUSPENDED: return "the token is suspended";
+    case DL_TOKEN_NOT_ACTIVATED: return "the token is not activated";
+    case DL_TOKEN_VOID: return "the token is void";
+    case DL_TOKEN_EXPIRED: return "the token has expired";
+    case DL_TOO_FAR: return "the step is too far from the clock";
+    case DL_USED: return "used password";
+    case DL_WRONG: return "wrong password";
+    case DL_MANAGEMENT_USED: return "used password for a management call";
+    case DL_MANAGEMENT_WRONG: return "wrong password for a management call";
+    case DL_SYNC_WRONG: return "wrong passwords for a sync";
+    default: return "unknown code";
+    }
+}
 
 /* Lengths. */
 #define DL_SM3_DIGEST_BYTES 32
@@ -48,7 +147,7 @@ extern "C" {
 #define DL_TIME_TOKEN  0
 #define DL_EVENT_TOKEN 1
 
-/* Sizes of windows: 2, 5 and 10 steps either way for a time token, 10, 20 and 50 ahead for an event token. */
+/* Sizes of dl_check's windows: 2, 5 and 10 steps either way for a time token, 10, 20 and 50 ahead for an event token. */
 #define DL_SMALL  1
 #define DL_MEDIUM 2
 #define DL_LARGE  3
@@ -107,7 +206,9 @@ uint16_t dl_sm4_encrypt(const uint32_t *keys, size_t keys_len,
 
 /*
  * The one-time password of GM/T 0021-2012, clause 6, from a key and a time
- * step, a count or both, with or without a challenge.
+ * step, a count or both, with or without a challenge. At clock `now` a time
+ * token shows the one of the time step now / period alone; an event token
+ * shows those of the counts 0, 1, 2 and so on.
  *
  *   algorithm  DL_ALGORITHM_SM3 or DL_ALGORITHM_SM4
  *   key        key_len is 16 to 32; SM4 uses the first 16 bytes
@@ -171,9 +272,8 @@ uint16_t dl_check(uint8_t kind, uint8_t algorithm, uint8_t digits,
  *
  * The table is the caller's and lent to every call: 1 to 256 rows of 96 bytes
  * (document 01, Part 4, has their layout). A row whose first byte is 0 is
- * empty, so a new table is all zeros. It holds the tokens' keys: keep it as
- * secret as they are. While a call that writes is running, no other call may
- * have the same table.
+ * empty, so a new table is all zeros, and a table may be stored and read back
+ * as it is. It holds the tokens' keys: keep it as secret as they are.
  *
  * Every call but dl_load goes to the row of the serial that it names, which is
  * the first one with that serial that is not empty, and changes no other row.
@@ -218,49 +318,9 @@ uint16_t dl_check(uint8_t kind, uint8_t algorithm, uint8_t digits,
 #define DL_STATE_SUSPENDED        5
 #define DL_STATE_VOID             6
 
-/* Windows of dl_sync. */
+/* Windows of dl_sync; their numbers are not those of dl_check's sizes. */
 #define DL_SYNC_MEDIUM 1
 #define DL_SYNC_LARGE  2
-
-/* Codes of success, one for each call. */
-#define DL_LOGGED_IN     0x0001 /* dl_login */
-#define DL_CHALLENGE_MET 0x0002 /* dl_challenge_login */
-#define DL_ACTIVATED     0x0101 /* dl_activate */
-#define DL_LOCKED        0x0102 /* dl_lock */
-#define DL_UNLOCKED      0x0103 /* dl_unlock */
-#define DL_SUSPENDED     0x0104 /* dl_suspend */
-#define DL_RESUMED       0x0105 /* dl_resume */
-#define DL_SYNCHRONIZED  0x0108 /* dl_sync */
-#define DL_VOIDED        0x010a /* dl_void */
-#define DL_QUERIED       0x010b /* dl_query */
-#define DL_LOADED        0x0140 /* dl_load */
-
-/*
- * Codes of refusal, in the order in which they are tested; DL_BAD_ARGUMENT
- * comes before them all. Those down to DL_DAMAGED_ROW leave the table as it
- * was, the next ones but for a wait that has run out.
- */
-#define DL_SERIAL_TAKEN        0x8411 /* dl_load: a row that is not empty has the serial */
-#define DL_TABLE_FULL          0x8410 /* dl_load: no row is empty */
-#define DL_NO_TOKEN            0x8402 /* no row that is not empty has the serial */
-#define DL_DAMAGED_ROW         0x8403 /* the token's row is not well formed */
-#define DL_TOKEN_READY         0x8409 /* the call needs another state: the token is ready */
-#define DL_TOKEN_LOCKED        0x8404 /* the same: it is locked, by errors or by hand */
-#define DL_TOKEN_SUSPENDED     0x8405 /* the same: it is suspended */
-#define DL_TOKEN_NOT_ACTIVATED 0x8406 /* the same: it is not activated */
-#define DL_TOKEN_VOID          0x8407 /* the same: it is void */
-#define DL_TOKEN_EXPIRED       0x8408 /* a checked call at or after the expiry */
-
-/*
- * The last refusals are those of the check. Each adds 1 to the token's errors,
- * which end at 255. dl_login and dl_challenge_login answer DL_USED or
- * DL_WRONG, and if the errors are then at or above the limit, the token is
- * locked by errors at now. DL_TOO_FAR would come before these, but no
- * candidate is so far from the clock.
- */
-#define DL_MANAGEMENT_USED  0x8104 /* as DL_USED, of the other checked calls */
-#define DL_MANAGEMENT_WRONG 0x8102 /* as DL_WRONG, of dl_activate, dl_unlock, dl_resume */
-#define DL_SYNC_WRONG       0x8105 /* as DL_WRONG, of dl_sync */
 
 /*
  * Puts a new token into the first empty row, all of whose bytes are set. The
