@@ -1,16 +1,16 @@
 -- The proofs of the buyer's third demand and of what follows from it.
 use Prim.Native.Nat.{ℕ, _-_, _*_, _≤_}
-use mathlib.Core.Path.{_≡_, ap}
+use mathlib.Core.Path.{_≡_, refl, ap}
 use mathlib.Core.List.{List, [], _∷_}
 use native.Mathlib.Omega.{arith}
 use lib.ListN.{replicate}
 use Rattle.window.specs.PasswordAt.{PasswordRule}
 use Rattle.row.specs.Row.{rowBytes}
 use Rattle.desk.specs.Requests.{DeskCall}
-use Rattle.desk.specs.Desk.{Run, run}
-use Rattle.ledger.specs.Ledger.{Entry, loads, answerTo, ledgerFrom, ledger}
+use Rattle.desk.specs.Desk.{deskAfter, Run, run}
+use Rattle.ledger.specs.Ledger.{Entry, loads, answerTo, rowsOf, tableOf, ledgerFrom, ledger}
 use Rattle.ledger.specs.Demand3.{SerialsFit, Demand3, answersOf, StepsRise, VoidAcceptsNothing}
-use Rattle.ledger.specs.Tokens.{Held, rendered, tableWith, AllSane}
+use Rattle.ledger.specs.Tokens.{Held, AllSane}
 use Rattle.ledger.specs.Described.{withEntry, tokensOf, Consistent}
 use Rattle.ledger.specs.BytesStep.{bytes-step}
 use Rattle.ledger.specs.SaneLaws.{SerialFits, sane-after}
@@ -23,34 +23,62 @@ first-fits : (call : DeskCall) (calls : List DeskCall) → SerialsFit (call ∷ 
 first-fits (DeskCall.load p key) calls h = h
 first-fits (DeskCall.named request serial clock) calls h = (tt, h)
 
-module _ (passwords : PasswordRule) (rows : ℕ) (some : 1 ≤ rows) (few : rows ≤ 256) where
-  -- the desk on the table of a history goes on as the ledger machine does
-  run-from : (history : List Entry) (calls : List DeskCall) → SerialsFit calls → Consistent rows history → AllSane (tokensOf (loads history) history)
-      → run passwords calls (tableWith rows (tokensOf (loads history) history)) ≡ ledgerFrom passwords rows history calls
-  unfolding run ledgerFrom
-  run-from history [] fit c sane = rw (history-table rows history)
-  run-from history (call ∷ calls) fit c sane =
-      let ts = tokensOf (loads history) history in
-      let first = first-fits call calls fit in
-      let step = history-step passwords rows history call c sane in
-      let later = run-from (withEntry call (answerTo passwords rows history call) history) calls (first .1) (consistent-step passwords rows history call c)
-      (rw (ap (λ (x : Held). x .tokens) step) at (sane-after passwords rows call ts sane (first .0))) in
-      rw (bytes-step passwords rows some few ts (tokens-fit rows history c) sane call, step, later)
+-- ---- one call
 
--- ---- no call yet
+-- a history that calls on zero rows can have
+pub record Faithful (rows : ℕ) (history : List Entry) : Type 0 where
+  pub consistent : Consistent rows history
+  pub sane : AllSane (tokensOf (loads history) history)
 
-start-table : (rows : ℕ) → tableWith rows (tokensOf (loads []) []) ≡ replicate (rowBytes * rows) 0
-unfolding loads tokensOf tableWith rendered
+pub start-faithful : (rows : ℕ) → Faithful rows []
+unfolding loads tokensOf
+start-faithful rows = record { consistent = start-consistent rows; sane = tt }
+
+pub start-table : (rows : ℕ) → tableOf rows [] ≡ replicate (rowBytes * rows) 0
+unfolding loads rowsOf tableOf
 start-table rows = let e : rows - 0 ≡ rows = omega arith in rw e
 
-start-sane : AllSane (tokensOf (loads []) [])
-unfolding loads tokensOf
-start-sane = tt
+module _ (passwords : PasswordRule) (rows : ℕ) (history : List Entry) (call : DeskCall) (faithful : Faithful rows history) where
+  -- the desk on the machine's table answers as the machine does, and leaves its next table
+  pub call-step : 1 ≤ rows → rows ≤ 256
+      → deskAfter passwords call (tableOf rows history)
+      ≡ record { answer = answerTo passwords rows history call; table = tableOf rows (withEntry call (answerTo passwords rows history call) history) }
+  call-step some few =
+      let ts = tokensOf (loads history) history in
+      let step = history-step passwords rows history call (faithful .consistent) (faithful .sane) in
+      rw (
+        ← history-table rows history,
+        bytes-step passwords rows some few ts (tokens-fit rows history (faithful .consistent)) (faithful .sane) call,
+        step,
+        history-table rows (withEntry call (answerTo passwords rows history call) history),
+      )
+
+  pub faithful-step : SerialFits call → Faithful rows (withEntry call (answerTo passwords rows history call) history)
+  faithful-step fit =
+      let step = history-step passwords rows history call (faithful .consistent) (faithful .sane) in
+      record {
+        consistent = consistent-step passwords rows history call (faithful .consistent);
+        sane = rw (ap (λ (x : Held). x .tokens) step) at (sane-after passwords rows call (tokensOf (loads history) history) (faithful .sane) fit);
+      }
+
+-- ---- every list of calls
+
+module _ (passwords : PasswordRule) (rows : ℕ) (some : 1 ≤ rows) (few : rows ≤ 256) where
+  run-from : (history : List Entry) (calls : List DeskCall) → SerialsFit calls → Faithful rows history
+      → run passwords calls (tableOf rows history) ≡ ledgerFrom passwords rows history calls
+  unfolding run ledgerFrom
+  run-from history [] fit faithful = refl
+  run-from history (call ∷ calls) fit faithful =
+      let first = first-fits call calls fit in
+      rw (
+        call-step passwords rows history call faithful some few,
+        run-from (withEntry call (answerTo passwords rows history call) history) calls (first .1) (faithful-step passwords rows history call faithful (first .0)),
+      )
 
 -- ---- the statements
 
 pub demand-3 : Demand3
-demand-3 passwords rows some few calls fit = rw (← start-table rows) (run-from passwords rows some few [] calls fit (start-consistent rows) start-sane)
+demand-3 passwords rows some few calls fit = rw (← start-table rows) (run-from passwords rows some few [] calls fit (start-faithful rows))
 
 same-answers : (passwords : PasswordRule) (rows : ℕ) → 1 ≤ rows → rows ≤ 256 → (calls : List DeskCall) → SerialsFit calls
     → answersOf passwords rows calls ≡ ledger passwords rows calls .answers
