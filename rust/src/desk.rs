@@ -89,6 +89,26 @@ impl<'a> Desk<'a> {
     }
 
     /// Puts a new token into the first empty row. It is not activated, and no step of it is used.
+    ///
+    /// ```
+    /// # use dykeladder::{Algorithm, Desk, Kind, Particulars, Refusal, Seconds, Serial, State, ROW_BYTES};
+    /// let token = Particulars {
+    ///     serial: Serial(7),
+    ///     kind: Kind::Event,
+    ///     algorithm: Algorithm::Sm4,
+    ///     digits: 8,
+    ///     limit: 5,
+    ///     key: b"sixteen letters.",
+    ///     wait: 60,
+    ///     expiry: Seconds(1 << 40),
+    /// };
+    /// let mut table = [0; ROW_BYTES];
+    /// let mut desk = Desk::new(&mut table);
+    /// assert_eq!(desk.load(&token), Ok(()));
+    /// assert_eq!(desk.query(token.serial, Seconds(0))?.state, State::NotActivated);
+    /// assert_eq!(desk.load(&token), Err(Refusal::SerialTaken));
+    /// # Ok::<(), Refusal>(())
+    /// ```
     pub fn load(&mut self, token: &Particulars<'_>) -> Answer<()> {
         Call::Load.answer(ffi::load(self.table, token))
     }
