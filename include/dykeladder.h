@@ -19,9 +19,9 @@
  * may read or write it: a table is in one call at a time, but for dl_query,
  * which only reads it.
  *
- * Memory. No call allocates, and none keeps a pointer when it has returned.
- * Copies of keys on the stack are not wiped, and the time of a call may depend
- * on what it reads.
+ * Memory. No call allocates, and none keeps a pointer when it has returned. A
+ * call may leave copies of keys on the stack, and its time may depend on what
+ * it reads.
  */
 #ifndef DYKELADDER_H
 #define DYKELADDER_H

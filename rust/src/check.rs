@@ -1,0 +1,73 @@
+//! The check of a token whose numbers the caller keeps himself, without a table.
+use crate::refusal::DONE;
+use crate::{ffi, Algorithm, Answer, BadArgument, Kind, Offset, Refusal, Seconds, Step};
+
+/// How far from its expected step a password is looked for.
+#[derive(Clone, Copy, Debug, PartialEq, Eq, Hash)]
+#[repr(u8)]
+pub enum Window {
+    /// 2 steps either way for a time token, 10 ahead for an event token.
+    Small = 1,
+    /// 5 steps either way, 20 ahead.
+    Medium = 2,
+    /// 10 steps either way, 50 ahead.
+    Large = 3,
+}
+
+/// What a check needs to know of a token.
+#[derive(Clone, Copy)]
+pub struct Track<'a> {
+    /// A time token or an event token.
+    pub kind: Kind,
+    /// What makes its passwords.
+    pub algorithm: Algorithm,
+    /// Of its passwords, 6 to 10.
+    pub digits: u8,
+    /// Its secret, 16 to 32 bytes.
+    pub key: &'a [u8],
+    /// The first unused step, at most 2^40 + 600.
+    pub next: Step,
+    /// How far its clock is ahead, -600 to 600.
+    pub offset: Offset,
+}
+
+impl Track<'_> {
+    /// The accepted step of a password or, with `following`, the second step of two passwords in a row.
+    ///
+    /// It changes nothing: the caller sets `next` to that step plus 1 and, for a time token, `offset` to that step minus the clock's.
+    /// Empty texts are none. It is refused as [`BadArgument`](Refusal::BadArgument), [`Used`](Refusal::Used) or
+    /// [`Wrong`](Refusal::Wrong).
+    ///
+    /// ```
+    /// # use dykeladder::{password, Algorithm, Factor, Kind, Offset, Refusal, Seconds, Step, Track, Window};
+    /// let mut track = Track {
+    ///     kind: Kind::Event,
+    ///     algorithm: Algorithm::Sm4,
+    ///     digits: 8,
+    ///     key: b"sixteen letters.",
+    ///     next: Step(5),
+    ///     offset: Offset(0),
+    /// };
+    /// let shown = password(track.algorithm, track.key, Factor::Count(6), None, track.digits)?;
+    /// let step = track.check(Seconds(0), Window::Small, None, shown, None)?;
+    /// assert_eq!(step, Step(6));
+    ///
+    /// track.next = Step(step.0 + 1);
+    /// assert_eq!(track.check(Seconds(0), Window::Small, None, shown, None), Err(Refusal::Used));
+    /// # Ok::<(), Refusal>(())
+    /// ```
+    pub fn check(
+        &self,
+        now: Seconds,
+        window: Window,
+        challenge: Option<&[u8]>,
+        password: impl AsRef<[u8]>,
+        following: Option<&[u8]>,
+    ) -> Answer<Step> {
+        let offset = u16::try_from(i32::from(self.offset.0) + 600).map_err(|_| BadArgument)?;
+        let texts = [challenge.unwrap_or_default(), password.as_ref(), following.unwrap_or_default()];
+        let mut step = [0];
+        let code = ffi::check(self, offset, now.0, window as u8, texts, &mut step);
+        Refusal::unless(code, DONE).map(|()| Step(step[0]))
+    }
+}

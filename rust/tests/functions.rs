@@ -1,0 +1,96 @@
+//! The hash, the cipher, the password and the check: the standards' examples, and what is out of range.
+use dykeladder::{
+    password, sm3, sm4, Algorithm, BadArgument, Factor, Kind, Offset, Refusal, Seconds, Sm4Keys, Step, Track, Window,
+};
+
+const KEY: &[u8] = b"a key of 20 letters.";
+
+fn words(bytes: &[u8]) -> Vec<u32> {
+    bytes.chunks(4).map(|word| word.iter().fold(0, |sum, &byte| sum << 8 | u32::from(byte))).collect()
+}
+
+// GB/T 32905-2016, Annex A.
+#[test]
+fn hash_of_the_standards_messages() {
+    let of_abc = [0x66c7f0f4, 0x62eeedd9, 0xd1f2d46b, 0xdc10e4e2, 0x4167c487, 0x5cf2f7a2, 0x297da02b, 0x8f4ba8e0];
+    let of_64_bytes = [0xdebe9ff9, 0x2275b8a1, 0x38604889, 0xc18e5a4d, 0x6fdb70e5, 0x387e5765, 0x293dcba3, 0x9c0c5732];
+    assert_eq!(words(&sm3(b"abc").unwrap()), of_abc);
+    assert_eq!(words(&sm3(&b"abcd".repeat(16)).unwrap()), of_64_bytes);
+}
+
+// GB/T 32907-2016, Annex A.
+#[test]
+fn cipher_of_the_standards_block() {
+    let key = 0x0123456789abcdeffedcba9876543210_u128.to_be_bytes();
+    let encrypted = 0x681edf34d206965e86b3e94f536e4246_u128.to_be_bytes();
+    assert_eq!(sm4(&key, &key), encrypted);
+    assert_eq!(Sm4Keys::new(&key).encrypt(&key), encrypted);
+}
+
+#[test]
+fn password_shows_its_digits() {
+    let made = password(Algorithm::Sm4, KEY, Factor::Count(7), None, 10).unwrap();
+    assert_eq!(made.as_str().len(), 10);
+    assert_eq!(made.to_string(), made.as_str());
+    assert_eq!(made.as_ref(), made.as_str().as_bytes());
+    assert_eq!(format!("{made:?}"), format!("Password(\"{made}\")"));
+}
+
+#[test]
+fn password_depends_on_every_argument() {
+    let of = |algorithm, factor, challenge| password(algorithm, KEY, factor, challenge, 10).unwrap();
+    let (time, count, both) = (Factor::Time(Step(7)), Factor::Count(7), Factor::TimeAndCount(Step(7), 7));
+    let all = [
+        of(Algorithm::Sm3, time, None),
+        of(Algorithm::Sm3, count, None),
+        of(Algorithm::Sm3, both, None),
+        of(Algorithm::Sm4, both, None),
+        of(Algorithm::Sm3, both, Some(b"quay")),
+    ];
+    for (at, made) in all.iter().enumerate() {
+        assert!(!all[..at].contains(made), "{made} comes twice");
+    }
+    assert_eq!(of(Algorithm::Sm3, both, Some(b"")), all[2], "an empty challenge is none");
+}
+
+#[test]
+fn password_out_of_range() {
+    let of = |key, challenge, digits| password(Algorithm::Sm3, key, Factor::Count(0), challenge, digits);
+    assert_eq!(of(&[1; 15], None, 6), Err(BadArgument));
+    assert_eq!(of(&[1; 33], None, 6), Err(BadArgument));
+    assert_eq!(of(KEY, Some(b"qua"), 6), Err(BadArgument));
+    assert_eq!(of(KEY, Some(b"the quay"), 6), Err(BadArgument));
+    assert_eq!(of(KEY, None, 5), Err(BadArgument));
+    assert_eq!(of(KEY, None, 11), Err(BadArgument));
+    assert_eq!(Refusal::from(BadArgument), Refusal::BadArgument);
+    assert_eq!(BadArgument.to_string(), "bad argument (9005)");
+}
+
+// At clock 1060 the step is 35, and with offset 2 the small window has 35 to 39.
+#[test]
+fn check_of_a_time_token() {
+    let kind = Kind::Time { period: 30 };
+    let track = Track { kind, algorithm: Algorithm::Sm3, digits: 6, key: KEY, next: Step(36), offset: Offset(2) };
+    let shown = |step| password(track.algorithm, track.key, Factor::Time(Step(step)), None, track.digits).unwrap();
+    let check = |window, step| track.check(Seconds(1060), window, None, shown(step), None);
+    assert_eq!(check(Window::Small, 34), Err(Refusal::Wrong));
+    assert_eq!(check(Window::Small, 35), Err(Refusal::Used));
+    assert_eq!(check(Window::Small, 39), Ok(Step(39)));
+    assert_eq!(check(Window::Small, 40), Err(Refusal::Wrong));
+    assert_eq!(check(Window::Medium, 42), Ok(Step(42)));
+    assert_eq!(check(Window::Large, 47), Ok(Step(47)));
+    assert_eq!(check(Window::Large, 48), Err(Refusal::Wrong));
+    let pair = track.check(Seconds(1060), Window::Small, None, shown(38), Some(shown(39).as_ref()));
+    assert_eq!(pair, Ok(Step(39)));
+}
+
+#[test]
+fn check_out_of_range() {
+    let track = Track { kind: Kind::Event, algorithm: Algorithm::Sm4, digits: 6, key: KEY, next: Step(0), offset: Offset(0) };
+    let check = |track: Track<'_>| track.check(Seconds(0), Window::Small, None, "123456", None);
+    assert_eq!(check(track), Err(Refusal::Wrong));
+    assert_eq!(check(Track { offset: Offset(-601), ..track }), Err(Refusal::BadArgument));
+    assert_eq!(check(Track { offset: Offset(601), ..track }), Err(Refusal::BadArgument));
+    assert_eq!(check(Track { key: &KEY[..15], ..track }), Err(Refusal::BadArgument));
+    assert_eq!(check(Track { kind: Kind::Time { period: 0 }, ..track }), Err(Refusal::BadArgument));
+}

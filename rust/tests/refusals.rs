@@ -1,0 +1,102 @@
+//! Every refusal of the desk, each from a call that is answered so.
+use dykeladder::{Answer, Call, Desk, Refusal, Seconds, Serial, SyncWindow, ROW_BYTES};
+
+mod common;
+use common::{shown, token};
+
+const SERIAL: Serial = Serial(7);
+const NOW: Seconds = Seconds(1060);
+
+// Of a call on a table of one row, after other calls have prepared it.
+fn answer_on_one_row(run: impl FnOnce(&mut Desk<'_>) -> Answer<()>) -> Answer<()> {
+    run(&mut Desk::new(&mut [0; ROW_BYTES]))
+}
+
+fn after_load(run: impl FnOnce(&mut Desk<'_>) -> Answer<()>) -> Answer<()> {
+    answer_on_one_row(|desk| {
+        desk.load(&token(SERIAL))?;
+        run(desk)
+    })
+}
+
+// Steps up to 36 are used.
+fn after_activation(run: impl FnOnce(&mut Desk<'_>) -> Answer<()>) -> Answer<()> {
+    after_load(|desk| {
+        desk.activate(SERIAL, NOW, shown(35), shown(36))?;
+        run(desk)
+    })
+}
+
+fn login(desk: &mut Desk<'_>, now: Seconds, step: u64) -> Answer<()> {
+    desk.login(SERIAL, now, shown(step)).map(drop)
+}
+
+fn sync(desk: &mut Desk<'_>, step: u64) -> Answer<()> {
+    desk.sync(SERIAL, NOW, SyncWindow::Medium, shown(step), shown(step + 1)).map(drop)
+}
+
+fn of_rows() -> [Answer<()>; 5] {
+    [
+        after_activation(|desk| desk.login(SERIAL, NOW, "12345x").map(drop)),
+        after_load(|desk| desk.load(&token(SERIAL))),
+        after_load(|desk| desk.load(&token(Serial(8)))),
+        after_load(|desk| desk.lock(Serial(8), NOW)),
+        Desk::new(&mut [7; ROW_BYTES]).query(Serial(0x0707070707070707), NOW).map(drop),
+    ]
+}
+
+fn of_states() -> [Answer<()>; 6] {
+    [
+        after_activation(|desk| desk.unlock(SERIAL, NOW, shown(37)).map(drop)),
+        after_activation(|desk| desk.lock(SERIAL, NOW).and_then(|()| login(desk, NOW, 37))),
+        after_activation(|desk| desk.suspend(SERIAL, NOW).and_then(|()| login(desk, NOW, 37))),
+        after_load(|desk| login(desk, NOW, 35)),
+        after_load(|desk| desk.void(SERIAL, NOW).and_then(|()| desk.void(SERIAL, NOW))),
+        after_activation(|desk| login(desk, Seconds(5000), 166)),
+    ]
+}
+
+fn of_passwords() -> [Answer<()>; 5] {
+    [
+        after_activation(|desk| login(desk, NOW, 36)),
+        after_activation(|desk| login(desk, NOW, 99)),
+        after_activation(|desk| sync(desk, 35)),
+        after_activation(|desk| desk.lock(SERIAL, NOW).and_then(|()| desk.unlock(SERIAL, NOW, shown(99)).map(drop))),
+        after_activation(|desk| sync(desk, 99)),
+    ]
+}
+
+// In the order of Refusal::ALL, in which only TooFar never comes.
+#[test]
+fn each_comes_up() {
+    let answers: Vec<_> = of_rows().into_iter().chain(of_states()).chain(of_passwords()).collect();
+    let expected = Refusal::ALL.iter().copied().filter(|&refusal| refusal != Refusal::TooFar);
+    assert_eq!(answers, expected.map(Err).collect::<Vec<_>>());
+}
+
+#[test]
+fn bad_arguments_leave_the_table() {
+    let mut table = [0; ROW_BYTES];
+    Desk::new(&mut table).load(&token(SERIAL)).expect("there is an empty row");
+    let before = table;
+    let mut desk = Desk::new(&mut table);
+    assert_eq!(desk.activate(SERIAL, Seconds(1 << 40), shown(35), shown(36)), Err(Refusal::BadArgument));
+    assert_eq!(desk.activate(SERIAL, NOW, shown(35), "36"), Err(Refusal::BadArgument));
+    assert_eq!(desk.challenge_login(SERIAL, NOW, "", shown(35)), Err(Refusal::BadArgument));
+    assert_eq!(table, before);
+}
+
+#[test]
+fn tables_of_other_lengths() {
+    let mut room = [0; 257 * ROW_BYTES];
+    for length in [0, ROW_BYTES - 1, ROW_BYTES + 1, room.len()] {
+        assert_eq!(Desk::new(&mut room[..length]).load(&token(SERIAL)), Err(Refusal::BadArgument), "{length} bytes");
+    }
+    assert_eq!(Desk::new(&mut room[..256 * ROW_BYTES]).load(&token(SERIAL)), Ok(()));
+}
+
+#[test]
+fn codes_for_a_log() {
+    assert_eq!(Call::Void.code_of(&after_load(|desk| desk.void(SERIAL, NOW))), 0x010a);
+    assert_eq!(Call::Login.code_of(&after_load(|desk| login(desk, NOW, 35))), 0x8406);
+}
