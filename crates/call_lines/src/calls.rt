@@ -1,0 +1,140 @@
+// The call of a line, made on the table. A line not so made is answered as a bad argument is.
+use crate::fields::field;
+use crate::fields::has_fields;
+use crate::names::Name;
+use crate::names::count_of;
+use crate::names::name_of;
+use crate::reading::LARGEST;
+use crate::reading::LARGEST_BYTE;
+use crate::reading::LARGEST_WORD;
+use crate::reading::number;
+use desk::Particulars;
+use desk::activate;
+use desk::challenge_login;
+use desk::load;
+use desk::lock;
+use desk::login;
+use desk::query;
+use desk::resume;
+use desk::suspend;
+use desk::sync;
+use desk::unlock;
+use desk::void;
+use text::hex;
+use token::Answer;
+use token::Refusal;
+use window::Rule;
+use window::Seconds;
+ghost use mathlib.Core.Path.{_≡_};
+ghost use Prim.Native.Nat.{_≤_};
+ghost use lib.ListN.{length};
+ghost use Rattle.text.specs.Text.{fieldsOf};
+ghost use Rattle.window.specs.PasswordAt.{passwordAt};
+ghost use Rattle.call_lines.specs.Line.{loadCall, challengeCall, syncCall, callBy, callOf, made};
+
+const LONGEST: usize = 4096;
+
+// A line of a load, of which SERIAL and EXPIRY were read.
+fn load_line(table: &mut [u8], line: &[u8], serial: u64, expiry: Seconds) -> Answer
+    requires { ⌜ length (now line) ≤ 4096 ⌝ }
+    ensures { λ r. ⌜ r ≡ made passwordAt (loadCall (fieldsOf (now (line .entry))) serial (expiry .0)) (now (table .entry)) .answer ⌝ }
+    ensures { λ _. ⌜ now (table .exit) ≡ made passwordAt (loadCall (fieldsOf (now (line .entry))) serial (expiry .0)) (now (table .entry)) .table ⌝ }
+{
+    let kind = number(field(line, 2), LARGEST_BYTE);
+    let algorithm = number(field(line, 3), LARGEST_BYTE);
+    let digits = number(field(line, 4), LARGEST_BYTE);
+    let period = number(field(line, 5), LARGEST_BYTE);
+    let limit = number(field(line, 6), LARGEST_BYTE);
+    let key = hex(field(line, 7));
+    let wait = number(field(line, 8), LARGEST_WORD);
+    if !(kind.ok & algorithm.ok & digits.ok & period.ok & limit.ok & key.ok & wait.ok) {
+        return Answer::Refused(Refusal::BadArgument);
+    }
+    let particulars = Particulars {
+        serial,
+        rule: Rule {
+            kind: kind.value as u8,
+            algorithm: algorithm.value as u8,
+            digits: digits.value as u8,
+        },
+        period: period.value as u8,
+        limit: limit.value as u8,
+        wait: wait.value as u32,
+        expiry,
+    };
+    let n = key.len;
+    let bytes = key.bytes;
+    load(table, particulars, &bytes[0..n])
+}
+
+// A line of a challenge login.
+fn challenge_line(table: &mut [u8], line: &[u8], serial: u64, clock: Seconds) -> Answer
+    requires { ⌜ length (now line) ≤ 4096 ⌝ }
+    ensures { λ r. ⌜ r ≡ made passwordAt (challengeCall (fieldsOf (now (line .entry))) serial (clock .0)) (now (table .entry)) .answer ⌝ }
+    ensures { λ _. ⌜ now (table .exit) ≡ made passwordAt (challengeCall (fieldsOf (now (line .entry))) serial (clock .0)) (now (table .entry)) .table ⌝ }
+{
+    let challenge = hex(field(line, 2));
+    if !challenge.ok {
+        return Answer::Refused(Refusal::BadArgument);
+    }
+    let n = challenge.len;
+    let bytes = challenge.bytes;
+    challenge_login(table, serial, clock, &bytes[0..n], field(line, 3))
+}
+
+// A line of a sync.
+fn sync_line(table: &mut [u8], line: &[u8], serial: u64, clock: Seconds) -> Answer
+    requires { ⌜ length (now line) ≤ 4096 ⌝ }
+    ensures { λ r. ⌜ r ≡ made passwordAt (syncCall (fieldsOf (now (line .entry))) serial (clock .0)) (now (table .entry)) .answer ⌝ }
+    ensures { λ _. ⌜ now (table .exit) ≡ made passwordAt (syncCall (fieldsOf (now (line .entry))) serial (clock .0)) (now (table .entry)) .table ⌝ }
+{
+    let choice = number(field(line, 2), LARGEST_BYTE);
+    if !choice.ok {
+        return Answer::Refused(Refusal::BadArgument);
+    }
+    let taken = choice.value as u8;
+    sync(table, serial, clock, taken, field(line, 3), field(line, 4))
+}
+
+// A line of the name's count of fields, of which SERIAL and the time at the end were read.
+fn named_line(table: &mut [u8], line: &[u8], name: Name, serial: u64, clock: Seconds) -> Answer
+    requires { ⌜ length (now line) ≤ 4096 ⌝ }
+    ensures { λ r. ⌜ r ≡ made passwordAt (callBy name (fieldsOf (now (line .entry))) serial (clock .0)) (now (table .entry)) .answer ⌝ }
+    ensures { λ _. ⌜ now (table .exit) ≡ made passwordAt (callBy name (fieldsOf (now (line .entry))) serial (clock .0)) (now (table .entry)) .table ⌝ }
+{
+    match name {
+        Name::Load => load_line(table, line, serial, clock),
+        Name::Login => login(table, serial, clock, field(line, 2)),
+        Name::Challenge => challenge_line(table, line, serial, clock),
+        Name::Activate => activate(table, serial, clock, field(line, 2), field(line, 3)),
+        Name::Lock => lock(table, serial, clock),
+        Name::Suspend => suspend(table, serial, clock),
+        Name::Void => void(table, serial, clock),
+        Name::Query => query(table, serial, clock),
+        Name::Unlock => unlock(table, serial, clock, field(line, 2)),
+        Name::Resume => resume(table, serial, clock, field(line, 2)),
+        Name::Sync => sync_line(table, line, serial, clock),
+        Name::Unknown => Answer::Refused(Refusal::BadArgument),
+    }
+}
+
+// Makes the call of a line.
+pub(crate) fn line_call(table: &mut [u8], line: &[u8]) -> Answer
+    ensures { λ r. ⌜ r ≡ made passwordAt (callOf (now (line .entry))) (now (table .entry)) .answer ⌝ }
+    ensures { λ _. ⌜ now (table .exit) ≡ made passwordAt (callOf (now (line .entry))) (now (table .entry)) .table ⌝ }
+{
+    if LONGEST < line.len() {
+        return Answer::Refused(Refusal::BadArgument);
+    }
+    let name = name_of(field(line, 0));
+    let count = count_of(name);
+    if !has_fields(line, count) {
+        return Answer::Refused(Refusal::BadArgument);
+    }
+    let serial = number(field(line, 1), LARGEST);
+    let clock = number(field(line, count - 1), LARGEST);
+    if !(serial.ok & clock.ok) {
+        return Answer::Refused(Refusal::BadArgument);
+    }
+    named_line(table, line, name, serial.value, Seconds(clock.value))
+}
