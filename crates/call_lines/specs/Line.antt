@@ -12,6 +12,7 @@ use Rattle.token.specs.declared.answers.Refusal.{Refusal}
 use Rattle.token.specs.declared.answers.Answer.{Answer}
 use Rattle.token.specs.Codes.{Signed, numberOf, valuesOf}
 use Rattle.token.specs.OnTable.{Result}
+use Rattle.desk.specs.declared.Particulars.{Particulars}
 use Rattle.desk.specs.Requests.{Request, DeskCall}
 use Rattle.desk.specs.Desk.{refused, deskAfter}
 use Rattle.call_lines.specs.declared.Printed.{Printed}
@@ -39,7 +40,7 @@ nameOf field =
     Name.Unknown))))))))))
 
 -- how many fields a line has, its name among them; no line has none
-unfoldable pub countOf : Name → ℕ
+abbrev pub countOf : Name → ℕ
 countOf Name.Load = 10
 countOf Name.Login = 4
 countOf Name.Challenge = 5
@@ -75,17 +76,15 @@ numberBelow limit field = below limit (decimalOf field)
 -- ---- calls
 
 -- load,SERIAL,KIND,ALGORITHM,DIGITS,PERIOD,LIMIT,KEY,WAIT,EXPIRY
-unfoldable pub loadCall : List (List ℕ) → ℕ → ℕ → Option DeskCall
-loadCall fields serial expiry =
+unfoldable pub particularsOf : List (List ℕ) → ℕ → ℕ → Option Particulars
+particularsOf fields serial expiry =
     given (numberBelow (2 ^ 8) (fieldOf fields 2))
     (λ kind. given (numberBelow (2 ^ 8) (fieldOf fields 3))
     (λ algorithm. given (numberBelow (2 ^ 8) (fieldOf fields 4))
     (λ digits. given (numberBelow (2 ^ 8) (fieldOf fields 5))
     (λ period. given (numberBelow (2 ^ 8) (fieldOf fields 6))
-    (λ limit. given (hexOf (fieldOf fields 7))
-    (λ key. given (numberBelow (2 ^ 32) (fieldOf fields 8))
+    (λ limit. given (numberBelow (2 ^ 32) (fieldOf fields 8))
     (λ wait. some
-    (DeskCall.load
     (record {
       serial = serial;
       rule = record { kind = kind; algorithm = algorithm; digits = digits };
@@ -93,8 +92,12 @@ loadCall fields serial expiry =
       limit = limit;
       wait = wait;
       expiry = record { 0 = expiry };
-    })
-    key))))))))
+    })))))))
+
+unfoldable pub loadCall : List (List ℕ) → ℕ → ℕ → Option DeskCall
+loadCall fields serial expiry =
+    given (particularsOf fields serial expiry)
+    (λ particulars. given (hexOf (fieldOf fields 7)) (λ key. some (DeskCall.load particulars key)))
 
 -- challenge,SERIAL,Q,PASSWORD,NOW
 unfoldable pub challengeCall : List (List ℕ) → ℕ → ℕ → Option DeskCall

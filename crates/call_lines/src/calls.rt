@@ -4,10 +4,8 @@ use crate::fields::has_fields;
 use crate::names::Name;
 use crate::names::count_of;
 use crate::names::name_of;
-use crate::reading::LARGEST;
-use crate::reading::LARGEST_BYTE;
-use crate::reading::LARGEST_WORD;
-use crate::reading::number;
+use crate::reading::byte_at;
+use crate::reading::number_at;
 use desk::Particulars;
 use desk::activate;
 use desk::challenge_login;
@@ -30,9 +28,48 @@ ghost use Prim.Native.Nat.{_≤_};
 ghost use lib.ListN.{length};
 ghost use Rattle.text.specs.Text.{fieldsOf};
 ghost use Rattle.window.specs.PasswordAt.{passwordAt};
-ghost use Rattle.call_lines.specs.Line.{loadCall, challengeCall, syncCall, callBy, callOf, made};
+ghost use Rattle.call_lines.specs.Line.{particularsOf, loadCall, challengeCall, syncCall, callBy, callOf, made};
+ghost use Rattle.call_lines.specs.LineLaws.{taken};
 
 const LONGEST: usize = 4096;
+
+const LARGEST_WORD: u64 = 0xffff_ffff;
+
+const LARGEST: u64 = 0xffff_ffff_ffff_ffff;
+
+// The particulars of a load, where they were right.
+pub struct LoadRead {
+    pub ok: bool,
+    pub particulars: Particulars,
+}
+
+fn particulars_of(line: &[u8], serial: u64, expiry: Seconds) -> LoadRead
+    requires { ⌜ length (now line) ≤ 4096 ⌝ }
+    ensures { λ r. ⌜ particularsOf (fieldsOf (now (line .entry))) serial (expiry .0) ≡ taken (r .ok) (r .particulars) ⌝ }
+{
+    let kind = byte_at(line, 2);
+    let algorithm = byte_at(line, 3);
+    let digits = byte_at(line, 4);
+    let period = byte_at(line, 5);
+    let limit = byte_at(line, 6);
+    let wait = number_at(line, 8, LARGEST_WORD);
+    let particulars = Particulars {
+        serial,
+        rule: Rule {
+            kind: kind.value,
+            algorithm: algorithm.value,
+            digits: digits.value,
+        },
+        period: period.value,
+        limit: limit.value,
+        wait: wait.value as u32,
+        expiry,
+    };
+    LoadRead {
+        ok: kind.ok & algorithm.ok & digits.ok & period.ok & limit.ok & wait.ok,
+        particulars,
+    }
+}
 
 // A line of a load, of which SERIAL and EXPIRY were read.
 fn load_line(table: &mut [u8], line: &[u8], serial: u64, expiry: Seconds) -> Answer
@@ -40,28 +77,12 @@ fn load_line(table: &mut [u8], line: &[u8], serial: u64, expiry: Seconds) -> Ans
     ensures { λ r. ⌜ r ≡ made passwordAt (loadCall (fieldsOf (now (line .entry))) serial (expiry .0)) (now (table .entry)) .answer ⌝ }
     ensures { λ _. ⌜ now (table .exit) ≡ made passwordAt (loadCall (fieldsOf (now (line .entry))) serial (expiry .0)) (now (table .entry)) .table ⌝ }
 {
-    let kind = number(field(line, 2), LARGEST_BYTE);
-    let algorithm = number(field(line, 3), LARGEST_BYTE);
-    let digits = number(field(line, 4), LARGEST_BYTE);
-    let period = number(field(line, 5), LARGEST_BYTE);
-    let limit = number(field(line, 6), LARGEST_BYTE);
+    let read = particulars_of(line, serial, expiry);
     let key = hex(field(line, 7));
-    let wait = number(field(line, 8), LARGEST_WORD);
-    if !(kind.ok & algorithm.ok & digits.ok & period.ok & limit.ok & key.ok & wait.ok) {
+    if !(read.ok & key.ok) {
         return Answer::Refused(Refusal::BadArgument);
     }
-    let particulars = Particulars {
-        serial,
-        rule: Rule {
-            kind: kind.value as u8,
-            algorithm: algorithm.value as u8,
-            digits: digits.value as u8,
-        },
-        period: period.value as u8,
-        limit: limit.value as u8,
-        wait: wait.value as u32,
-        expiry,
-    };
+    let particulars = read.particulars;
     let n = key.len;
     let bytes = key.bytes;
     load(table, particulars, &bytes[0..n])
@@ -88,12 +109,18 @@ fn sync_line(table: &mut [u8], line: &[u8], serial: u64, clock: Seconds) -> Answ
     ensures { λ r. ⌜ r ≡ made passwordAt (syncCall (fieldsOf (now (line .entry))) serial (clock .0)) (now (table .entry)) .answer ⌝ }
     ensures { λ _. ⌜ now (table .exit) ≡ made passwordAt (syncCall (fieldsOf (now (line .entry))) serial (clock .0)) (now (table .entry)) .table ⌝ }
 {
-    let choice = number(field(line, 2), LARGEST_BYTE);
+    let choice = byte_at(line, 2);
     if !choice.ok {
         return Answer::Refused(Refusal::BadArgument);
     }
-    let taken = choice.value as u8;
-    sync(table, serial, clock, taken, field(line, 3), field(line, 4))
+    sync(
+        table,
+        serial,
+        clock,
+        choice.value,
+        field(line, 3),
+        field(line, 4),
+    )
 }
 
 // A line of the name's count of fields, of which SERIAL and the time at the end were read.
@@ -131,8 +158,8 @@ pub(crate) fn line_call(table: &mut [u8], line: &[u8]) -> Answer
     if !has_fields(line, count) {
         return Answer::Refused(Refusal::BadArgument);
     }
-    let serial = number(field(line, 1), LARGEST);
-    let clock = number(field(line, count - 1), LARGEST);
+    let serial = number_at(line, 1, LARGEST);
+    let clock = number_at(line, count - 1, LARGEST);
     if !(serial.ok & clock.ok) {
         return Answer::Refused(Refusal::BadArgument);
     }

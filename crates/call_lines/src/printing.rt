@@ -7,12 +7,13 @@ use token::number_of;
 use window::FARTHEST;
 use window::Offset;
 ghost use mathlib.Core.Path.{_≡_};
-ghost use mathlib.Core.List.{List, _∷_, _++_};
-ghost use Prim.Native.Nat.{ℕ, _+_, _≤_, _<_};
-ghost use lib.ListN.{length, drop};
+ghost use mathlib.Core.List.{_∷_, _++_};
+ghost use Prim.Native.Nat.{_+_, _≤_, _<_};
+ghost use lib.ListN.{length, take, drop};
 ghost use Rattle.text.specs.Text.{comma};
 ghost use Rattle.token.specs.Codes.{signedOf, valuesOf};
 ghost use Rattle.call_lines.specs.Line.{hexDigit, codeText, decimalText, signedText, valuesText, answerText, printedOf};
+ghost use Rattle.call_lines.specs.PrintingLaws.{Puts};
 
 // The digits of a number: the bytes from start on.
 pub struct Digits {
@@ -45,7 +46,7 @@ fn code_text(code: u16) -> Printed
 
 // The decimal digits of x, from the last to the first.
 fn digits_of(x: u64) -> Digits
-    ensures { λ r. ⌜ r .start < 20 ⌝ }
+    ensures { λ r. ⌜ (r .start < 20) × (length (r .bytes) ≡ 20) ⌝ }
     ensures { λ r. ⌜ drop (r .start) (r .bytes) ≡ decimalText x ⌝ }
 {
     let mut bytes = [0u8; 20];
@@ -60,24 +61,36 @@ fn digits_of(x: u64) -> Digits
     Digits { start, bytes }
 }
 
+// The bytes with more at at.
+fn with_part(bytes: [u8; 40], at: usize, more: &[u8]) -> [u8; 40]
+    requires { ⌜ at + length (now more) ≤ 40 ⌝ }
+    ensures { λ r. ⌜ r ≡ take at bytes ++ (now (more .entry) ++ drop (at + length (now (more .entry))) bytes) ⌝ }
+{
+    let mut out = bytes;
+    let end = at + more.len();
+    copy(more, &mut out[at..end]);
+    out
+}
+
 // The text with more behind it.
 fn put(text: Printed, more: &[u8]) -> Printed
     requires { ⌜ text .len + length (now more) ≤ 40 ⌝ }
     ensures { λ r. ⌜ r .len ≡ text .len + length (now (more .entry)) ⌝ }
-    ensures { λ r. ⌜ ((t : List ℕ) → text ≡ printedOf t → r ≡ printedOf (t ++ now (more .entry))) ⌝ }
+    ensures { λ r. ⌜ Puts text (now (more .entry)) r ⌝ }
 {
     let at = text.len;
-    let mut bytes = text.bytes;
-    let end = at + more.len();
-    copy(more, &mut bytes[at..end]);
-    Printed { len: end, bytes }
+    let bytes = text.bytes;
+    Printed {
+        len: at + more.len(),
+        bytes: with_part(bytes, at, more),
+    }
 }
 
 // The text with x behind it.
 fn put_decimal(text: Printed, x: u64) -> Printed
     requires { ⌜ text .len + length (decimalText x) ≤ 40 ⌝ }
     ensures { λ r. ⌜ r .len ≡ text .len + length (decimalText x) ⌝ }
-    ensures { λ r. ⌜ ((t : List ℕ) → text ≡ printedOf t → r ≡ printedOf (t ++ decimalText x)) ⌝ }
+    ensures { λ r. ⌜ Puts text (decimalText x) r ⌝ }
 {
     let digits = digits_of(x);
     let start = digits.start;
@@ -89,7 +102,7 @@ fn put_decimal(text: Printed, x: u64) -> Printed
 fn put_number(text: Printed, x: u64) -> Printed
     requires { ⌜ text .len + 1 + length (decimalText x) ≤ 40 ⌝ }
     ensures { λ r. ⌜ r .len ≡ text .len + 1 + length (decimalText x) ⌝ }
-    ensures { λ r. ⌜ ((t : List ℕ) → text ≡ printedOf t → r ≡ printedOf (t ++ (comma ∷ decimalText x))) ⌝ }
+    ensures { λ r. ⌜ Puts text (comma ∷ decimalText x) r ⌝ }
 {
     put_decimal(put(text, b","), x)
 }
@@ -98,7 +111,7 @@ fn put_number(text: Printed, x: u64) -> Printed
 fn put_offset(text: Printed, offset: Offset) -> Printed
     requires { ⌜ text .len + 7 ≤ 40 ⌝ }
     ensures { λ r. ⌜ r .len ≤ text .len + 7 ⌝ }
-    ensures { λ r. ⌜ ((t : List ℕ) → text ≡ printedOf t → r ≡ printedOf (t ++ (comma ∷ signedText (signedOf offset)))) ⌝ }
+    ensures { λ r. ⌜ Puts text (comma ∷ signedText (signedOf offset)) r ⌝ }
 {
     let held = offset.0 as u64;
     if FARTHEST <= held {
@@ -111,7 +124,7 @@ fn put_offset(text: Printed, offset: Offset) -> Printed
 fn put_content(code: Printed, content: Content) -> Printed
     requires { ⌜ code .len ≡ 4 ⌝ }
     ensures { λ r. ⌜ r .len ≤ 40 ⌝ }
-    ensures { λ r. ⌜ ((t : List ℕ) → code ≡ printedOf t → r ≡ printedOf (t ++ valuesText (valuesOf content))) ⌝ }
+    ensures { λ r. ⌜ Puts code (valuesText (valuesOf content)) r ⌝ }
 {
     match content {
         Content::Plain => code,

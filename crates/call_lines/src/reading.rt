@@ -1,29 +1,35 @@
 // Numbers that their fields can hold.
+use crate::fields::field;
 use text::Number;
 use text::decimal;
 ghost use mathlib.Core.Path.{_≡_};
-ghost use Prim.Native.Nat.{_+_, _≤_};
-ghost use Rattle.call_lines.specs.Line.{numberBelow};
-ghost use Rattle.call_lines.specs.LineLaws.{valueOf};
+ghost use Prim.Native.Nat.{_+_, _≤_, _^_};
+ghost use lib.ListN.{length};
+ghost use Rattle.text.specs.Text.{fieldsOf};
+ghost use Rattle.call_lines.specs.Line.{fieldOf, numberBelow};
+ghost use Rattle.call_lines.specs.LineLaws.{taken};
 
-pub(crate) const LARGEST_BYTE: u64 = 0xff;
+const LARGEST_BYTE: u64 = 0xff;
 
-pub(crate) const LARGEST_WORD: u64 = 0xffff_ffff;
-
-pub(crate) const LARGEST: u64 = 0xffff_ffff_ffff_ffff;
-
-// Whether a number was right, and the number; 0 where it was not.
+// A number, where it was right.
 pub struct Value {
     pub ok: bool,
     pub value: u64,
 }
 
-// The number in a field that holds numbers up to most.
-pub(crate) fn number(field: &[u8], most: u64) -> Value
-    ensures { λ r. ⌜ r ≡ valueOf (numberBelow (most + 1) (now (field .entry))) ⌝ }
+pub struct Byte {
+    pub ok: bool,
+    pub value: u8,
+}
+
+// The number in the field i, which holds numbers up to most.
+pub(crate) fn number_at(line: &[u8], i: usize, most: u64) -> Value
+    requires { ⌜ i ≤ 10 ⌝ }
+    requires { ⌜ length (now line) ≤ 4096 ⌝ }
+    ensures { λ r. ⌜ numberBelow (most + 1) (fieldOf (fieldsOf (now (line .entry))) i) ≡ taken (r .ok) (r .value) ⌝ }
     ensures { λ r. ⌜ r .value ≤ most ⌝ }
 {
-    let Number::Value(x) = decimal(field) else {
+    let Number::Value(x) = decimal(field(line, i)) else {
         return Value {
             ok: false,
             value: 0,
@@ -35,5 +41,18 @@ pub(crate) fn number(field: &[u8], most: u64) -> Value
     Value {
         ok: false,
         value: 0,
+    }
+}
+
+// The number in the field i, which holds a byte.
+pub(crate) fn byte_at(line: &[u8], i: usize) -> Byte
+    requires { ⌜ i ≤ 10 ⌝ }
+    requires { ⌜ length (now line) ≤ 4096 ⌝ }
+    ensures { λ r. ⌜ numberBelow (2 ^ 8) (fieldOf (fieldsOf (now (line .entry))) i) ≡ taken (r .ok) (r .value) ⌝ }
+{
+    let read = number_at(line, i, LARGEST_BYTE);
+    Byte {
+        ok: read.ok,
+        value: read.value as u8,
     }
 }
