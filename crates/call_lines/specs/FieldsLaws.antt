@@ -22,6 +22,9 @@ pub record Passed (line : List ℕ) (i start passed : ℕ) : Type 0 where
   pub bounded : start ≤ length line + passed
   pub left : startAfter (i - passed) line start ≡ startAfter i line 0
 
+pub passed-none : (line : List ℕ) (i : ℕ) → Passed line i 0 0
+passed-none line i = let e : i - 0 ≡ i = omega arith in record { within = omega arith; bounded = omega arith; left = rw e }
+
 module _ (line : List ℕ) (i start passed : ℕ) (walked : Passed line i start passed) where
   module _ {r : Field} (more : passed < i) (found : r ≡ fieldAt line start) where
     pub end-bounded : r .end ≤ length line + passed

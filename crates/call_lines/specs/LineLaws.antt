@@ -80,14 +80,17 @@ module _ (passwords : PasswordRule) (s : List ℕ) where
   unfolding made
   made-none e = rw e (refl, refl)
 
-  pub made-call : {o : Option DeskCall} {call : DeskCall} {answer : Answer} {table : List ℕ} → o ≡ some call
-      → (answer ≡ deskAfter passwords call s .answer) × (table ≡ deskAfter passwords call s .table) → Made o answer table
-  unfolding made
-  made-call e p = rw e p
+  pub made-as : {o p : Option DeskCall} {answer : Answer} {table : List ℕ} → Made p answer table → o ≡ p → Made o answer table
+  made-as m e = rw e m
 
-  pub made-query : {o : Option DeskCall} {serial clock : ℕ} {answer : Answer} → o ≡ some (DeskCall.named Request.query serial clock)
-      → answer ≡ deskAfter passwords (DeskCall.named Request.query serial clock) s .answer → Made o answer s
-  made-query {serial = serial} {clock} e p = made-call e (p, query-keeps passwords serial clock s)
+  pub made-call : {o : Option DeskCall} {call : DeskCall} {answer : Answer} {table : List ℕ}
+      → (answer ≡ deskAfter passwords call s .answer) × (table ≡ deskAfter passwords call s .table) → o ≡ some call → Made o answer table
+  unfolding made
+  made-call m e = rw e m
+
+  pub made-query : {o : Option DeskCall} {serial clock : ℕ} {answer : Answer} → answer ≡ deskAfter passwords (DeskCall.named Request.query serial clock) s .answer
+      → o ≡ some (DeskCall.named Request.query serial clock) → Made o answer s
+  made-query {serial = serial} {clock} m e = made-call (m, query-keeps passwords serial clock s) e
 
 -- ---- a key or a challenge of more than 32 bytes is a bad argument
 

@@ -1,3 +1,4 @@
+use Rattle.call_lines.specs.FieldsLaws.{Passed, passed-none, end-bounded, passed-more, passed-all}
 use native.Mathlib.Omega.{arith}
 use borrow.Author.Needs.{needs}
 use Prim.Native.Nat.{_-_}
@@ -13,7 +14,7 @@ abbrev μ-loop : tie.MeasureT-loop
 μ-loop line i start₀ passed₀ start passed = i - passed
 
 loop-holds : tie.Need-loop-holds Inv-loop μ-loop
-loop-holds c = record { within = omega arith; bounded = omega arith; left = refl }
+loop-holds c = passed-none (c .before .args .line .now) (c .before .args .i)
 
 field-at-requires : tie.Need-field-at-requires Inv-loop μ-loop
 field-at-requires c κs = search needs
