@@ -3,5 +3,5 @@ pub mod Line
 pub mod LineLaws
 pub mod FieldsLaws
 pub mod PrintingLaws
-pub mod TextLaws
+pub mod AnswerLaws
 pub mod LineExamples

@@ -1,14 +1,14 @@
 -- What each branch of a line's call returns.
 use Prim.Native.Nat.{ℕ, _+_, _-_, _^_, _≤_, _<_}
-use mathlib.Core.Path.{_≡_, refl, sym, ap, _∙_}
-use mathlib.Core.Bool.{Bool, true, false, not, _&&_, _||_, cond}
-use mathlib.Core.List.{List, []}
+use mathlib.Core.Path.{_≡_, refl, sym, _∙_}
+use mathlib.Core.Bool.{Bool, true, false, not, _&&_, cond}
+use mathlib.Core.List.{List}
 use mathlib.Core.Option.{Option, none, some}
 use native.Mathlib.Omega.{arith}
 use borrow.Author.Tests.{lt-ltb, le-ltb, lt-leb, le-leb, leb-false, ltb-false, eqb-true, ne-eqb, not-true, not-false}
 use lib.Dec.{eqb, leb, ltb}
 use lib.ListN.{length, take, drop}
-use Rattle.words.specs.ListsLaws.{by-test, and-true, and-false}
+use Rattle.words.specs.ListsLaws.{by-test, and-false}
 use Rattle.otp.specs.Password.{challengeOk}
 use Rattle.words.specs.Branches.{either}
 use Rattle.row.specs.declared.reading.Place.{Place}
@@ -22,7 +22,7 @@ use Rattle.token.specs.declared.answers.Refusal.{Refusal}
 use Rattle.token.specs.declared.answers.Answer.{Answer}
 use Rattle.token.specs.OnTable.{Result}
 use Rattle.desk.specs.declared.Particulars.{Particulars}
-use Rattle.desk.specs.Requests.{Request, DeskCall, tableOk, clockOk, passwordOk, challengeGiven, requestOk, loadedRow, loadOk}
+use Rattle.desk.specs.Requests.{Request, DeskCall, tableOk, clockOk, challengeGiven, requestOk}
 use Rattle.desk.specs.Desk.{refused, requestedAt, requestedOf, deskAfter}
 use Rattle.desk.specs.LoadLaws.{long-key-bad}
 use Rattle.call_lines.specs.declared.names.Name.{Name}

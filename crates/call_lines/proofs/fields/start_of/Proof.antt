@@ -2,7 +2,6 @@ use Rattle.call_lines.specs.FieldsLaws.{Passed, passed-none, end-bounded
 use native.Mathlib.Omega.{arith}
 use borrow.Author.Needs.{needs}
 use Prim.Native.Nat.{_-_}
-use mathlib.Core.Path.{refl}
 use Rattle.call_lines.specs.FieldsLaws.{Passed, end-bounded, passed-more, passed-all}
 use Rattle.call_lines.proofs.fields.start_of.Statement.{statement}
 use Rattle.call_lines.proofs.fields.start_of.Tie as tie

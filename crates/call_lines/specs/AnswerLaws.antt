@@ -1,12 +1,11 @@
 -- The text of an answer: what is printed of a number is read again as that number, and no answer has more than 40 bytes.
 use Prim.Native.Nat.{ℕ, zero, suc, _+_, _-_, _*_, _/_, _%_, _^_, _≤_, _<_}
-use mathlib.Core.Path.{_≡_, refl, sym, ap, _∙_}
-use mathlib.Core.Bool.{true, false, _&&_, cond}
+use mathlib.Core.Path.{_≡_, refl, sym, _∙_}
 use mathlib.Core.List.{List, [], _∷_, _++_}
-use mathlib.Core.Option.{Option, none, some}
+use mathlib.Core.Option.{some}
 use native.Mathlib.Nat.{pow-suc, div-lt-iff-lt-mul, lt-of-lt-of-le, zero-lt-suc}
 use native.Mathlib.Omega.{arith}
-use borrow.Author.Tests.{eqb-true, eqb-false, lt-ltb, le-ltb, le-leb, ltb-true, ltb-false, leb-true, leb-false}
+use borrow.Author.Tests.{eqb-true, eqb-false, lt-ltb, le-leb, ltb-true, ltb-false, leb-false}
 use lib.Dec.{eqb, leb, ltb, lit≤}
 use lib.ListN.{length, getD, length-append, List·getD-append}
 use Rattle.words.specs.ListsLaws.{by-test}
@@ -84,13 +83,13 @@ decimal-again x l =
 
 -- the numbers of an answer are those of its types
 abbrev pub Typed : Content → Type 0
-Typed Content.Plain = 0 ≤ 0
+Typed Content.Plain = Unit {0}
 Typed (Content.Checked step offset) = (step .0 < 2 ^ 64) × (offset .0 < 2 ^ 16)
 Typed (Content.Told status) = (status .state < 2 ^ 8) × ((status .errors < 2 ^ 8) × (status .used .0 < 2 ^ 64))
 
 abbrev pub AnswerTyped : Answer → Type 0
 AnswerTyped (Answer.Success call content) = Typed content
-AnswerTyped (Answer.Refused refusal) = 0 ≤ 0
+AnswerTyped (Answer.Refused refusal) = Unit {0}
 
 -- an offset has a sign and up to five digits
 offset-fits : (offset : Offset) → offset .0 < 2 ^ 16 → length (signedText (signedOf offset)) ≤ 5
@@ -111,9 +110,11 @@ content-fits (Content.Told status) h =
     let a = decimal-few 2 (status .state) (omega arith) in
     let b = decimal-few 2 (status .errors) (omega arith) in
     let c = decimal-few 19 (status .used .0) (lt-of-lt-of-le (h .1 .1) (lit≤ tt)) in
-    rw (length-append (decimalText (status .state)) (comma ∷ (decimalText (status .errors) ++ (comma ∷ (decimalText (status .used .0) ++ [])))),
-    length-append (decimalText (status .errors)) (comma ∷ (decimalText (status .used .0) ++ [])),
-    length-append (decimalText (status .used .0)) []) (omega arith)
+    rw (
+      length-append (decimalText (status .state)) (comma ∷ (decimalText (status .errors) ++ (comma ∷ (decimalText (status .used .0) ++ [])))),
+      length-append (decimalText (status .errors)) (comma ∷ (decimalText (status .used .0) ++ [])),
+      length-append (decimalText (status .used .0)) [],
+    ) (omega arith)
 
 pub answer-fits : (answer : Answer) → AnswerTyped answer → length (answerText answer) ≤ 40
 unfolding answerText codeText valuesText
