@@ -39,7 +39,7 @@ nameOf field =
     (isNamed field (0x73 ∷ 0x79 ∷ 0x6e ∷ 0x63 ∷ []) Name.Sync
     Name.Unknown))))))))))
 
--- how many fields a line has, its name among them; no line has none
+-- how many fields a line has, its name among them; no line has 0
 abbrev pub countOf : Name → ℕ
 countOf Name.Load = 10
 countOf Name.Login = 4
@@ -109,7 +109,7 @@ unfoldable pub syncCall : List (List ℕ) → ℕ → ℕ → Option DeskCall
 syncCall fields serial clock =
     given (numberBelow (2 ^ 8) (fieldOf fields 2)) (λ choice. some (DeskCall.named (Request.sync choice (fieldOf fields 3) (fieldOf fields 4)) serial clock))
 
--- the call of a name, of the serial and of the time at the line's end: EXPIRY of a load, and NOW of the others
+-- the call of a name, its SERIAL and its time, which is the EXPIRY of a load and the NOW of the others
 unfoldable pub callBy : Name → List (List ℕ) → ℕ → ℕ → Option DeskCall
 callBy Name.Load fields serial expiry = loadCall fields serial expiry
 callBy Name.Login fields serial clock = some (DeskCall.named (Request.login (fieldOf fields 2)) serial clock)
@@ -133,7 +133,7 @@ fieldsCall name fields =
     (λ clock. callBy name fields serial clock)))
     none
 
--- the call of a line; none where the line is not so made
+-- the call of a line; none where the line is not so made, or has more than 4,096 bytes
 unfoldable pub callOf : List ℕ → Option DeskCall
 callOf line = cond (leb (length line) 4096) (fieldsCall (nameOf (fieldOf (fieldsOf line) 0)) (fieldsOf line)) none
 

@@ -2,7 +2,7 @@
 use Prim.Native.Nat.{ℕ, _+_, _-_, _^_, _≤_, _<_}
 use mathlib.Core.Path.{_≡_, refl, sym, _∙_}
 use mathlib.Core.Bool.{Bool, true, false, not, _&&_, cond}
-use mathlib.Core.List.{List}
+use mathlib.Core.List.{List, [], _∷_}
 use mathlib.Core.Option.{Option, none, some}
 use native.Mathlib.Omega.{arith}
 use borrow.Author.Tests.{lt-ltb, le-ltb, lt-leb, le-leb, leb-false, ltb-false, eqb-true, ne-eqb, not-true, not-false}
@@ -26,7 +26,7 @@ use Rattle.desk.specs.Requests.{Request, DeskCall, tableOk, clockOk, challengeG
 use Rattle.desk.specs.Desk.{refused, requestedAt, requestedOf, deskAfter}
 use Rattle.desk.specs.LoadLaws.{long-key-bad}
 use Rattle.call_lines.specs.declared.names.Name.{Name}
-use Rattle.call_lines.specs.Line.{countOf, fieldOf, given, below, numberBelow, particularsOf, loadCall, challengeCall, syncCall, callBy, fieldsCall, nameOf, callOf, made}
+use Rattle.call_lines.specs.Line.{countOf, fieldOf, given, below, numberBelow, particularsOf, loadCall, challengeCall, syncCall, callBy, fieldsCall, nameOf, callOf, codeText, valuesText, answerText, made, lineAfter}
 
 -- a value as the functions give it: one that was right
 abbrev pub taken : {A : Type 0} → Bool → A → Option A
@@ -73,10 +73,11 @@ module _ (passwords : PasswordRule) (s : List ℕ) where
   abbrev pub Made : Option DeskCall → Answer → List ℕ → Type 0
   Made o answer table = (answer ≡ made passwords o s .answer) × (table ≡ made passwords o s .table)
 
-  abbrev badArgument : Option DeskCall → Type 0
-  badArgument o = Made o (Answer.Refused Refusal.BadArgument) s
+  -- it was turned down as a bad argument
+  abbrev pub TurnedDown : Option DeskCall → Type 0
+  TurnedDown o = Made o (Answer.Refused Refusal.BadArgument) s
 
-  pub made-none : {o : Option DeskCall} → o ≡ none → badArgument o
+  pub made-none : {o : Option DeskCall} → o ≡ none → TurnedDown o
   unfolding made
   made-none e = rw e (refl, refl)
 
@@ -126,12 +127,12 @@ bytes-decoded {s} {field} {r} same p e =
 
 module _ (passwords : PasswordRule) (s : List ℕ) (fields : List (List ℕ)) (serial clock : ℕ) where
   pub challenge-bad : {digits : List ℕ} {r : Decoded} → digits ≡ fieldOf fields 2 → r ≡ decodedOf digits → not (r .ok) ≡ true
-      → Made passwords s (challengeCall fields serial clock) (Answer.Refused Refusal.BadArgument) s
+      → TurnedDown passwords s (challengeCall fields serial clock)
   unfolding challengeCall made
   challenge-bad {digits} {r} same p e =
       rw (← same)
       (hex-bad
-      (λ o. Made passwords s (given o (λ challenge. some (DeskCall.named (Request.challengeLogin challenge (fieldOf fields 3)) serial clock))) (Answer.Refused Refusal.BadArgument) s)
+      (λ o. TurnedDown passwords s (given o (λ challenge. some (DeskCall.named (Request.challengeLogin challenge (fieldOf fields 3)) serial clock))))
       (refl, refl)
       (λ q l. rw (long-challenge passwords s q (fieldOf fields 3) serial clock l) (refl, refl))
       (hexOf digits)
@@ -154,15 +155,14 @@ module _ (passwords : PasswordRule) (s : List ℕ) (fields : List (List ℕ)) (s
 
   module _ (p : Particulars) (ok : Bool) {digits : List ℕ} {r : Decoded} (read : particularsOf fields serial clock ≡ taken ok p) (same : digits ≡ fieldOf fields 7)
       (key : r ≡ decodedOf digits) where
-    pub load-bad : not (ok && r .ok) ≡ true → Made passwords s (loadCall fields serial clock) (Answer.Refused Refusal.BadArgument) s
+    pub load-bad : not (ok && r .ok) ≡ true → TurnedDown passwords s (loadCall fields serial clock)
     unfolding loadCall made
     load-bad t = rw (read, ← same) (bad ok (not-true (ok && r .ok) t))
       where
-        bad : (b : Bool) → b && r .ok ≡ false
-            → Made passwords s (given (taken b p) (λ q. given (hexOf digits) (λ k. some (DeskCall.load q k)))) (Answer.Refused Refusal.BadArgument) s
+        bad : (b : Bool) → b && r .ok ≡ false → TurnedDown passwords s (given (taken b p) (λ q. given (hexOf digits) (λ k. some (DeskCall.load q k))))
         bad false e = (refl, refl)
         bad true e =
-            hex-bad (λ o. Made passwords s (given o (λ k. some (DeskCall.load p k))) (Answer.Refused Refusal.BadArgument) s) (refl, refl)
+            hex-bad (λ o. TurnedDown passwords s (given o (λ k. some (DeskCall.load p k)))) (refl, refl)
             (λ k l. rw (long-key passwords s p k l) (refl, refl)) (hexOf digits) (rw (← key) e)
 
     pub load-read : {k : List ℕ} → ok ≡ true → hexOf (fieldOf fields 7) ≡ some k → loadCall fields serial clock ≡ some (DeskCall.load p k)
@@ -170,33 +170,40 @@ module _ (passwords : PasswordRule) (s : List ℕ) (fields : List (List ℕ)) (s
     load-read t e = rw (read, t, e)
 
 -- six numbers are the particulars where each of them was right
-pub all-taken : (fields : List (List ℕ)) (serial expiry : ℕ) (kind algorithm digits period limit wait : ℕ) (k a d p l w : Bool)
-    → numberBelow (2 ^ 8) (fieldOf fields 2) ≡ taken k kind
-    → numberBelow (2 ^ 8) (fieldOf fields 3) ≡ taken a algorithm
-    → numberBelow (2 ^ 8) (fieldOf fields 4) ≡ taken d digits
-    → numberBelow (2 ^ 8) (fieldOf fields 5) ≡ taken p period
-    → numberBelow (2 ^ 8) (fieldOf fields 6) ≡ taken l limit
-    → numberBelow (2 ^ 32) (fieldOf fields 8) ≡ taken w wait
-    → particularsOf fields serial expiry
-    ≡ taken (k && a && d && p && l && w)
-    (record {
-      serial = serial;
-      rule = record { kind = kind; algorithm = algorithm; digits = digits };
-      period = period;
-      limit = limit;
-      wait = wait;
-      expiry = record { 0 = expiry };
-    })
-unfolding particularsOf
-all-taken fields serial expiry kind algorithm digits period limit wait false a d p l w e f g h i j = rw e
-all-taken fields serial expiry kind algorithm digits period limit wait true false d p l w e f g h i j = rw (e, f)
-all-taken fields serial expiry kind algorithm digits period limit wait true true false p l w e f g h i j = rw (e, f, g)
-all-taken fields serial expiry kind algorithm digits period limit wait true true true false l w e f g h i j = rw (e, f, g, h)
-all-taken fields serial expiry kind algorithm digits period limit wait true true true true false w e f g h i j = rw (e, f, g, h, i)
-all-taken fields serial expiry kind algorithm digits period limit wait true true true true true false e f g h i j = rw (e, f, g, h, i, j)
-all-taken fields serial expiry kind algorithm digits period limit wait true true true true true true e f g h i j = rw (e, f, g, h, i, j)
+module _ (fields : List (List ℕ)) (serial expiry kind algorithm digits period limit wait : ℕ) where
+  pub all-taken : (k a d p l w : Bool)
+      → numberBelow (2 ^ 8) (fieldOf fields 2) ≡ taken k kind
+      → numberBelow (2 ^ 8) (fieldOf fields 3) ≡ taken a algorithm
+      → numberBelow (2 ^ 8) (fieldOf fields 4) ≡ taken d digits
+      → numberBelow (2 ^ 8) (fieldOf fields 5) ≡ taken p period
+      → numberBelow (2 ^ 8) (fieldOf fields 6) ≡ taken l limit
+      → numberBelow (2 ^ 32) (fieldOf fields 8) ≡ taken w wait
+      → particularsOf fields serial expiry
+      ≡ taken (k && a && d && p && l && w)
+      (record {
+        serial = serial;
+        rule = record { kind = kind; algorithm = algorithm; digits = digits };
+        period = period;
+        limit = limit;
+        wait = wait;
+        expiry = record { 0 = expiry };
+      })
+  unfolding particularsOf
+  all-taken false a d p l w e f g h i j = rw e
+  all-taken true false d p l w e f g h i j = rw (e, f)
+  all-taken true true false p l w e f g h i j = rw (e, f, g)
+  all-taken true true true false l w e f g h i j = rw (e, f, g, h)
+  all-taken true true true true false w e f g h i j = rw (e, f, g, h, i)
+  all-taken true true true true true false e f g h i j = rw (e, f, g, h, i, j)
+  all-taken true true true true true true e f g h i j = rw (e, f, g, h, i, j)
 
 -- ---- the line
+
+-- a line not so made prints 9005, and changes nothing
+pub not-made : (passwords : PasswordRule) (line s : List ℕ) → callOf line ≡ none
+    → lineAfter passwords line s ≡ record { text = 0x39 ∷ 0x30 ∷ 0x30 ∷ 0x35 ∷ []; table = s }
+unfolding lineAfter made answerText codeText valuesText
+not-made passwords line s e = rw e
 
 module _ (line : List ℕ) where
   pub line-long : 4096 < length line → callOf line ≡ none

@@ -45,7 +45,7 @@ pub(crate) fn name_of(field: &[u8]) -> Name
     is_named(field, b"load", Name::Load, name)
 }
 
-// The count of fields of a line, its name among them; no line has none.
+// The count of fields of a line, its name among them; no line has 0.
 pub(crate) fn count_of(name: Name) -> usize
     ensures { λ r. ⌜ r ≡ countOf name ⌝ }
 {

@@ -17,6 +17,7 @@ pub struct Value {
     pub value: u64,
 }
 
+// The same of a byte.
 pub struct Byte {
     pub ok: bool,
     pub value: u8,
