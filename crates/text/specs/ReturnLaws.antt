@@ -248,13 +248,13 @@ module _ (line ends : List ℕ) (start i : ℕ) (walked : Walked line ends start
       rw (e, take-all 6 ends m, append-nil ends) at (walked .stored)
 
 module _ (line : List ℕ) where
-  starts-rise : (n start : ℕ) → start + n ≤ startAfter n line start
+  pub starts-rise : (n start : ℕ) → start + n ≤ startAfter n line start
   unfolding startAfter fieldEnd
   starts-rise zero start = omega arith
   starts-rise (suc n) start = let h = starts-rise n (fieldEnd line start + 1) in omega arith
 
   -- the walk ends past the line exactly where the fields are as many as its steps
-  counted : (n start : ℕ) → start ≤ length line → eqb (startAfter (suc n) line start) (length line + 1) ≡ eqb (length (fieldsOf (drop start line))) (suc n)
+  pub counted : (n start : ℕ) → start ≤ length line → eqb (startAfter (suc n) line start) (length line + 1) ≡ eqb (length (fieldsOf (drop start line))) (suc n)
   unfolding startAfter
   counted zero start l =
       by-test (ltb (fieldEnd line start) (length line))

@@ -1,0 +1,63 @@
+use native.Mathlib.Omega.{arith}
+use Rattle.window.specs.PasswordAt.{passwordAt}
+use Rattle.call_lines.specs.LineLaws.{made-none, made-as, line-long, count-small, line-miscounted, name-first, line-unread, line-read}
+use borrow.Author.Needs.{needs}
+use Rattle.call_lines.proofs.calls.line_call.Statement.{statement}
+use Rattle.call_lines.proofs.calls.line_call.Tie as tie
+
+returns : tie.Need-returns
+returns c = let a = c .before .before .before .args in made-none passwordAt (a .table .now) (line-long (a .line .now) (c .if1 .taken))
+
+field-requires : tie.Need-field-requires
+field-requires c κs = search needs
+
+name-of-requires : tie.Need-name-of-requires
+name-of-requires c κs = search needs
+
+count-of-requires : tie.Need-count-of-requires
+count-of-requires c κs = search needs
+
+has-fields-requires : tie.Need-has-fields-requires
+has-fields-requires c κs = (count-small (c .before .name-of .result) (c .count-of .ensures), c .before .before .before .if1 .left)
+
+returns-2 : tie.Need-returns-2
+returns-2 c = let a = c .before .before .before .before .before .before .before .before .args in made-none passwordAt (a .table .now) (line-miscounted (a .line .now) (c .before .before .before .before .before .if1 .left) (c .before .before .before .before .field .ensures) (c .before .before .before .name-of .ensures) (c .before .before .count-of .ensures) (c .before .has-fields .ensures) (c .if2 .taken))
+
+number-at-requires : tie.Need-number-at-requires
+number-at-requires c κs = search needs
+
+sub-number-at : tie.Need-sub-number-at
+sub-number-at c = let a = c .before .before .before .before .before .before .before .before .before .args in name-first (a .line .now) (c .before .before .before .before .before .before .if1 .left) (c .before .before .before .before .before .field .ensures) (c .before .before .before .before .name-of .ensures) (c .before .before .before .count-of .ensures) (c .before .before .has-fields .ensures) (c .before .if2 .left)
+
+number-at-requires-2 : tie.Need-number-at-requires-2
+number-at-requires-2 c κs = (let h = count-small (c .before .before .before .before .name-of .result) (c .before .before .before .count-of .ensures) in omega arith, c .before .before .before .before .before .before .if1 .left)
+
+returns-3 : tie.Need-returns-3
+returns-3 c = let a = c .before .before .before .before .before .before .before .before .before .before .before .before .before .args in made-none passwordAt (a .table .now) (line-unread (a .line .now) (c .before .before .before .before .before .before .before .before .before .before .if1 .left) (c .before .before .before .before .before .before .before .before .before .field .ensures) (c .before .before .before .before .before .before .before .before .name-of .ensures) (c .before .before .before .before .before .before .before .count-of .ensures) (c .before .before .before .before .before .before .has-fields .ensures) (c .before .before .before .before .before .if2 .left) (c .before .before .before .before .number-at .result .value) (c .before .before .before .number-at2 .result .value) (c .before .before .before .before .number-at .result .ok) (c .before .before .before .number-at2 .result .ok) (c .before .before .before .before .number-at .ensures .0) (c .before .before .before .number-at2 .ensures .0) (c .if3 .taken))
+
+named-line-requires : tie.Need-named-line-requires
+named-line-requires c κs = search needs
+
+same-length : tie.Need-same-length
+same-length c = search needs
+
+returns-4 : tie.Need-returns-4
+returns-4 c = let a = c .before .before .before .before .before .before .before .before .before .before .before .before .before .before .before .before .before .args in made-as passwordAt (a .table .now) (c .before .before .named-line .ensures) (line-read (a .line .now) (c .before .before .before .before .before .before .before .before .before .before .before .before .before .before .if1 .left) (c .before .before .before .before .before .before .before .before .before .before .before .before .before .field .ensures) (c .before .before .before .before .before .before .before .before .before .before .before .before .name-of .ensures) (c .before .before .before .before .before .before .before .before .before .before .before .count-of .ensures) (c .before .before .before .before .before .before .before .before .before .before .has-fields .ensures) (c .before .before .before .before .before .before .before .before .before .if2 .left) (c .before .before .before .before .before .before .before .before .number-at .result .value) (c .before .before .before .before .before .before .before .number-at2 .result .value) (c .before .before .before .before .before .before .before .before .number-at .result .ok) (c .before .before .before .before .before .before .before .number-at2 .result .ok) (c .before .before .before .before .before .before .before .before .number-at .ensures .0) (c .before .before .before .before .before .before .before .number-at2 .ensures .0) (c .before .before .before .before .if3 .left))
+
+pub line-call-spec : {M : Type 1} → statement M
+line-call-spec =
+    tie.close
+    (tie.spec
+    returns
+    field-requires
+    name-of-requires
+    count-of-requires
+    has-fields-requires
+    returns-2
+    number-at-requires
+    sub-number-at
+    number-at-requires-2
+    returns-3
+    named-line-requires
+    same-length
+    returns-4)

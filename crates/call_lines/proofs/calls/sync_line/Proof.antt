@@ -1,0 +1,39 @@
+use Rattle.window.specs.PasswordAt.{passwordAt}
+use Rattle.text.specs.Text.{fieldsOf}
+use Rattle.call_lines.specs.LineLaws.{made-none, made-call, sync-bad, sync-read}
+use borrow.Author.Needs.{needs}
+use Rattle.call_lines.proofs.calls.sync_line.Statement.{statement}
+use Rattle.call_lines.proofs.calls.sync_line.Tie as tie
+
+byte-at-requires : tie.Need-byte-at-requires
+byte-at-requires c κs = search needs
+
+returns : tie.Need-returns
+returns c = let a = c .before .before .before .before .before .args in made-none passwordAt (a .table .now) (sync-bad passwordAt (a .table .now) (fieldsOf (a .line .now)) (a .serial) (a .clock .0) (c .before .before .byte-at .result .value) (c .before .before .byte-at .result .ok) (c .before .before .byte-at .ensures) (c .if1 .taken))
+
+field-requires : tie.Need-field-requires
+field-requires c κs = search needs
+
+field-requires-2 : tie.Need-field-requires-2
+field-requires-2 c κs = search needs
+
+sync-requires : tie.Need-sync-requires
+sync-requires c κs = search needs
+
+same-length : tie.Need-same-length
+same-length c = search needs
+
+returns-2 : tie.Need-returns-2
+returns-2 c = let a = c .before .before .before .before .before .before .before .before .before .before .before .args in made-call passwordAt (a .table .now) (c .before .before .sync .ensures) (sync-read passwordAt (a .table .now) (fieldsOf (a .line .now)) (a .serial) (a .clock .0) (c .before .before .before .before .before .before .before .before .byte-at .result .value) (c .before .before .before .before .before .before .before .before .byte-at .result .ok) (c .before .before .before .before .before .before .before .before .byte-at .ensures) (c .before .before .before .before .before .before .if1 .left) (c .before .before .before .before .field .ensures) (c .before .before .before .field2 .ensures))
+
+pub sync-line-spec : {M : Type 1} → statement M
+sync-line-spec =
+    tie.close
+    (tie.spec
+    byte-at-requires
+    returns
+    field-requires
+    field-requires-2
+    sync-requires
+    same-length
+    returns-2)

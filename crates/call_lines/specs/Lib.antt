@@ -1,0 +1,7 @@
+-- What a line of the program desk_lines means: the call that it makes, and the text that is printed for it.
+pub mod Line
+pub mod LineLaws
+pub mod FieldsLaws
+pub mod PrintingLaws
+pub mod AnswerLaws
+pub mod LineExamples

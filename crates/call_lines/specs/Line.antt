@@ -1,0 +1,193 @@
+-- What a line of the program desk_lines means (its format: "Lines for the desk"): the call that it makes, and what is printed for it.
+use Prim.Native.Nat.{ℕ, zero, suc, _+_, _-_, _/_, _%_, _^_}
+use mathlib.Core.Bool.{cond}
+use mathlib.Core.List.{List, [], _∷_, _++_}
+use mathlib.Core.Option.{Option, none, some}
+use lib.Dec.{eqb, leb, ltb}
+use lib.ListN.{length, getD, replicate}
+use Rattle.words.specs.Lists.{sameBytes}
+use Rattle.text.specs.Text.{comma, decimalOf, hexOf, fieldsOf}
+use Rattle.window.specs.PasswordAt.{PasswordRule}
+use Rattle.token.specs.declared.answers.Refusal.{Refusal}
+use Rattle.token.specs.declared.answers.Answer.{Answer}
+use Rattle.token.specs.Codes.{Signed, numberOf, valuesOf}
+use Rattle.token.specs.OnTable.{Result}
+use Rattle.desk.specs.declared.Particulars.{Particulars}
+use Rattle.desk.specs.Requests.{Request, DeskCall}
+use Rattle.desk.specs.Desk.{refused, deskAfter}
+use Rattle.call_lines.specs.declared.Printed.{Printed}
+use Rattle.call_lines.specs.declared.names.Name.{Name}
+
+-- ---- names
+
+abbrev pub isNamed : List ℕ → List ℕ → Name → Name → Name
+isNamed field text name other = cond (sameBytes field text) name other
+
+-- load, login, challenge, activate, lock, suspend, void, query, unlock, resume, sync
+unfoldable pub nameOf : List ℕ → Name
+nameOf field =
+    isNamed field (0x6c ∷ 0x6f ∷ 0x61 ∷ 0x64 ∷ []) Name.Load
+    (isNamed field (0x6c ∷ 0x6f ∷ 0x67 ∷ 0x69 ∷ 0x6e ∷ []) Name.Login
+    (isNamed field (0x63 ∷ 0x68 ∷ 0x61 ∷ 0x6c ∷ 0x6c ∷ 0x65 ∷ 0x6e ∷ 0x67 ∷ 0x65 ∷ []) Name.Challenge
+    (isNamed field (0x61 ∷ 0x63 ∷ 0x74 ∷ 0x69 ∷ 0x76 ∷ 0x61 ∷ 0x74 ∷ 0x65 ∷ []) Name.Activate
+    (isNamed field (0x6c ∷ 0x6f ∷ 0x63 ∷ 0x6b ∷ []) Name.Lock
+    (isNamed field (0x73 ∷ 0x75 ∷ 0x73 ∷ 0x70 ∷ 0x65 ∷ 0x6e ∷ 0x64 ∷ []) Name.Suspend
+    (isNamed field (0x76 ∷ 0x6f ∷ 0x69 ∷ 0x64 ∷ []) Name.Void
+    (isNamed field (0x71 ∷ 0x75 ∷ 0x65 ∷ 0x72 ∷ 0x79 ∷ []) Name.Query
+    (isNamed field (0x75 ∷ 0x6e ∷ 0x6c ∷ 0x6f ∷ 0x63 ∷ 0x6b ∷ []) Name.Unlock
+    (isNamed field (0x72 ∷ 0x65 ∷ 0x73 ∷ 0x75 ∷ 0x6d ∷ 0x65 ∷ []) Name.Resume
+    (isNamed field (0x73 ∷ 0x79 ∷ 0x6e ∷ 0x63 ∷ []) Name.Sync
+    Name.Unknown))))))))))
+
+-- how many fields a line has, its name among them; no line has 0
+abbrev pub countOf : Name → ℕ
+countOf Name.Load = 10
+countOf Name.Login = 4
+countOf Name.Challenge = 5
+countOf Name.Activate = 5
+countOf Name.Lock = 3
+countOf Name.Suspend = 3
+countOf Name.Void = 3
+countOf Name.Query = 3
+countOf Name.Unlock = 4
+countOf Name.Resume = 4
+countOf Name.Sync = 6
+countOf Name.Unknown = 0
+
+-- ---- fields
+
+-- a field by its number, from 0 on; a password is the bytes as typed
+abbrev pub fieldOf : List (List ℕ) → ℕ → List ℕ
+fieldOf fields i = getD fields i []
+
+-- what follows of a value that was read, or nothing
+abbrev pub given : {A B : Type 0} → Option A → (A → Option B) → Option B
+given none f = none
+given (some x) f = f x
+
+abbrev pub below : ℕ → Option ℕ → Option ℕ
+below limit none = none
+below limit (some x) = cond (ltb x limit) (some x) none
+
+-- a number that its field can hold
+abbrev pub numberBelow : ℕ → List ℕ → Option ℕ
+numberBelow limit field = below limit (decimalOf field)
+
+-- ---- calls
+
+-- load,SERIAL,KIND,ALGORITHM,DIGITS,PERIOD,LIMIT,KEY,WAIT,EXPIRY
+unfoldable pub particularsOf : List (List ℕ) → ℕ → ℕ → Option Particulars
+particularsOf fields serial expiry =
+    given (numberBelow (2 ^ 8) (fieldOf fields 2))
+    (λ kind. given (numberBelow (2 ^ 8) (fieldOf fields 3))
+    (λ algorithm. given (numberBelow (2 ^ 8) (fieldOf fields 4))
+    (λ digits. given (numberBelow (2 ^ 8) (fieldOf fields 5))
+    (λ period. given (numberBelow (2 ^ 8) (fieldOf fields 6))
+    (λ limit. given (numberBelow (2 ^ 32) (fieldOf fields 8))
+    (λ wait. some
+    (record {
+      serial = serial;
+      rule = record { kind = kind; algorithm = algorithm; digits = digits };
+      period = period;
+      limit = limit;
+      wait = wait;
+      expiry = record { 0 = expiry };
+    })))))))
+
+unfoldable pub loadCall : List (List ℕ) → ℕ → ℕ → Option DeskCall
+loadCall fields serial expiry =
+    given (particularsOf fields serial expiry)
+    (λ particulars. given (hexOf (fieldOf fields 7)) (λ key. some (DeskCall.load particulars key)))
+
+-- challenge,SERIAL,Q,PASSWORD,NOW
+unfoldable pub challengeCall : List (List ℕ) → ℕ → ℕ → Option DeskCall
+challengeCall fields serial clock =
+    given (hexOf (fieldOf fields 2)) (λ challenge. some (DeskCall.named (Request.challengeLogin challenge (fieldOf fields 3)) serial clock))
+
+-- sync,SERIAL,CHOICE,PASSWORD,NEXT,NOW
+unfoldable pub syncCall : List (List ℕ) → ℕ → ℕ → Option DeskCall
+syncCall fields serial clock =
+    given (numberBelow (2 ^ 8) (fieldOf fields 2)) (λ choice. some (DeskCall.named (Request.sync choice (fieldOf fields 3) (fieldOf fields 4)) serial clock))
+
+-- the call of a name, its SERIAL and its time, which is the EXPIRY of a load and the NOW of the others
+unfoldable pub callBy : Name → List (List ℕ) → ℕ → ℕ → Option DeskCall
+callBy Name.Load fields serial expiry = loadCall fields serial expiry
+callBy Name.Login fields serial clock = some (DeskCall.named (Request.login (fieldOf fields 2)) serial clock)
+callBy Name.Challenge fields serial clock = challengeCall fields serial clock
+callBy Name.Activate fields serial clock = some (DeskCall.named (Request.activate (fieldOf fields 2) (fieldOf fields 3)) serial clock)
+callBy Name.Lock fields serial clock = some (DeskCall.named Request.lock serial clock)
+callBy Name.Suspend fields serial clock = some (DeskCall.named Request.suspend serial clock)
+callBy Name.Void fields serial clock = some (DeskCall.named Request.void serial clock)
+callBy Name.Query fields serial clock = some (DeskCall.named Request.query serial clock)
+callBy Name.Unlock fields serial clock = some (DeskCall.named (Request.unlock (fieldOf fields 2)) serial clock)
+callBy Name.Resume fields serial clock = some (DeskCall.named (Request.resume (fieldOf fields 2)) serial clock)
+callBy Name.Sync fields serial clock = syncCall fields serial clock
+callBy Name.Unknown fields serial clock = none
+
+-- every line has SERIAL behind its name, and a time at its end
+unfoldable pub fieldsCall : Name → List (List ℕ) → Option DeskCall
+fieldsCall name fields =
+    cond (eqb (length fields) (countOf name))
+    (given (numberBelow (2 ^ 64) (fieldOf fields 1))
+    (λ serial. given (numberBelow (2 ^ 64) (fieldOf fields (countOf name - 1)))
+    (λ clock. callBy name fields serial clock)))
+    none
+
+-- the call of a line; none where the line is not so made, or has more than 4,096 bytes
+unfoldable pub callOf : List ℕ → Option DeskCall
+callOf line = cond (leb (length line) 4096) (fieldsCall (nameOf (fieldOf (fieldsOf line) 0)) (fieldsOf line)) none
+
+-- ---- answers
+
+-- small letters
+abbrev pub hexDigit : ℕ → ℕ
+hexDigit x = cond (ltb x 10) (x + 0x30) (x + 0x57)
+
+-- four digits
+unfoldable pub codeText : ℕ → List ℕ
+codeText code = hexDigit (code / 0x1000) ∷ hexDigit (code / 0x100 % 16) ∷ hexDigit (code / 0x10 % 16) ∷ hexDigit (code % 16) ∷ []
+
+-- the digits of x, of which there are up to n, without leading zeros
+unfoldable pub decimalDigits : ℕ → ℕ → List ℕ
+decimalDigits zero x = []
+decimalDigits (suc n) x = cond (ltb x 10) ((x + 0x30) ∷ []) (decimalDigits n (x / 10) ++ ((x % 10 + 0x30) ∷ []))
+
+-- a number below 2^64 has up to 20 digits
+abbrev pub decimalText : ℕ → List ℕ
+decimalText x = decimalDigits 20 x
+
+abbrev pub signedText : Signed → List ℕ
+signedText (Signed.plus x) = decimalText x
+signedText (Signed.minus x) = 0x2d ∷ decimalText x
+
+-- each value behind a comma
+unfoldable pub valuesText : List Signed → List ℕ
+valuesText [] = []
+valuesText (v ∷ values) = comma ∷ (signedText v ++ valuesText values)
+
+abbrev pub answerValues : Answer → List Signed
+answerValues (Answer.Success call content) = valuesOf content
+answerValues (Answer.Refused refusal) = []
+
+-- the code, and what a success carries
+unfoldable pub answerText : Answer → List ℕ
+answerText answer = codeText (numberOf answer) ++ valuesText (answerValues answer)
+
+-- ---- a line
+
+-- the call made on a table; what is no call is answered as a bad argument is, and changes nothing
+unfoldable pub made : PasswordRule → Option DeskCall → List ℕ → Result
+made passwords none s = refused Refusal.BadArgument s
+made passwords (some call) s = deskAfter passwords call s
+
+-- the text printed for a line, without the line feed, and the table after it
+pub record Told : Type 0 where
+  pub text : List ℕ
+  pub table : List ℕ
+
+unfoldable pub lineAfter : PasswordRule → List ℕ → List ℕ → Told
+lineAfter passwords line s = record { text = answerText (made passwords (callOf line) s .answer); table = made passwords (callOf line) s .table }
+
+-- the text as the function gives it: how many bytes, and the bytes with zeros behind them
+unfoldable pub printedOf : List ℕ → Printed
+printedOf text = record { len = length text; bytes = text ++ replicate (40 - length text) 0 }
