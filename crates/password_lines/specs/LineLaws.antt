@@ -1,5 +1,5 @@
 -- Laws of a line's answer.
-use Prim.Native.Nat.{ℕ, _+_, _-_, _^_, _≤_, _<_, zero-le}
+use Prim.Native.Nat.{ℕ, _+_, _-_, _*_, _^_, _≤_, _<_, zero-le}
 use mathlib.Core.Path.{_≡_, refl, sym, ap, _∙_}
 use mathlib.Core.Bool.{true, false, not, cond, _&&_, _||_}
 use mathlib.Core.List.{List, [], _∷_, _++_}
@@ -17,8 +17,8 @@ use Rattle.otp.specs.PasswordLaws.{key-short, challenge-short, known-algorithm,
 use Rattle.words.specs.Codes.{done, badArgument}
 use Rattle.text.specs.declared.numbers.Number.{Number}
 use Rattle.text.specs.declared.hexadecimal.Decoded.{Decoded}
-use Rattle.text.specs.Text.{decoded, decodedOf, decimalOf, bounded, numberOf, hexOf, fieldsOf, sumLengths}
-use Rattle.text.specs.TextLaws.{number-value, hex-decoded, decimal-length, hex-length, length-fields, SixFields}
+use Rattle.text.specs.Text.{digitValue, digitsFrom, decoded, decodedOf, decimalOf, bounded, numberOf, hexOf, fieldsOf, sumLengths}
+use Rattle.text.specs.TextLaws.{decimal-range, decimal-value, number-value, hex-decoded, decimal-length, hex-length, length-fields, SixFields}
 use Rattle.password_lines.specs.declared.Printed.{Printed}
 use Rattle.password_lines.specs.declared.fields.FactorRead.{FactorRead}
 use Rattle.password_lines.specs.declared.fields.FactorRead.the-variants.{Is, Bad}
@@ -83,6 +83,24 @@ some-read none e = let z : _≡_ {A = ℕ} 0 1 = cc in absurd (omega arith)
 some-read (some f) e = cc
 
 -- ---- small numbers
+
+pub small-digit : (b : ℕ) → leb 0x30 b && leb b 0x39 ≡ true → b - 0x30 ≡ smallOf (decimalOf (b ∷ []))
+unfolding decimalOf digitsFrom
+small-digit b t =
+    let d : ltb (digitValue b) 10 ≡ true = sym (decimal-range b) ∙ t in
+    let v = decimal-value b d in
+    let e : 0 * 10 + digitValue b ≡ b - 0x30 = (let w = v .0 in omega arith) in
+    let m = v .1 .1 in
+    rw (and-false (eqb b 0x30), d, e, lt-ltb (b - 0x30) 256 (omega arith))
+
+pub small-no-digit : (b : ℕ) → leb 0x30 b && leb b 0x39 ≡ false → 0 ≡ smallOf (decimalOf (b ∷ []))
+unfolding decimalOf digitsFrom
+small-no-digit b t = let d : ltb (digitValue b) 10 ≡ false = sym (decimal-range b) ∙ t in rw (and-false (eqb b 0x30), d)
+
+pub alone-byte : (s : List ℕ) {x r : ℕ} → length s ≡ 1 → x ≡ getD s 0 0 → r ≡ smallOf (decimalOf (x ∷ [])) → r ≡ smallOf (decimalOf s)
+alone-byte [] l e p = absurd (omega arith)
+alone-byte (b ∷ []) l e p = rw e at p
+alone-byte (b ∷ c ∷ s) l e p = absurd (omega arith)
 
 pub small-bad : (s : List ℕ) → numberOf s ≡ Number.Bad → 0 ≡ smallOf (decimalOf s)
 small-bad s e = not-bounded (λ o. 0 ≡ smallOf o) refl (λ v l. rw (le-ltb v 256 (omega arith))) (decimalOf s) e

@@ -7,6 +7,7 @@ use text::decimal;
 use text::hex;
 use words::codes::DONE;
 ghost use mathlib.Core.Path.{_≡_};
+ghost use mathlib.Core.List.{[], _∷_};
 ghost use Prim.Native.Nat.{_+_};
 ghost use Rattle.text.specs.Text.{decimalOf};
 ghost use Rattle.password_lines.specs.Line.{refusal, factorField, passwordText, fieldsAnswer, printedOf};
@@ -44,10 +45,23 @@ fn factor_field(field: &[u8], most: u64) -> FactorRead
     FactorRead::Bad
 }
 
-// A small number; what is no number or too large becomes 0, which neither an algorithm nor a count of digits is.
+// A digit, or 0 for another byte.
+fn digit(b: u8) -> u8
+    ensures { λ r. ⌜ r ≡ smallOf (decimalOf (b ∷ [])) ⌝ }
+{
+    if (0x30 <= b) & (b <= 0x39) {
+        return b - 0x30;
+    }
+    0
+}
+
+// A small number; what is no number or too large becomes 0, which neither an algorithm nor a count of digits is. Most have one digit.
 fn small_field(field: &[u8]) -> u8
     ensures { λ r. ⌜ r ≡ smallOf (decimalOf (now (field .entry))) ⌝ }
 {
+    if field.len() == 1 {
+        return digit(field[0]);
+    }
     let Number::Value(x) = decimal(field) else {
         return 0;
     };
