@@ -1,0 +1,232 @@
+// The desk beside the same calls in C over OpenSSL (desk_peer.h) and beside liboath, which has passwords and windows but no table:
+// prints rows of the report's table, then how the cost grows with rows and with candidates, and which refusals write.
+#define _DEFAULT_SOURCE
+#include "desk_scenes.h"
+#include "desk_refusals.h"
+
+enum { PASSES = 10, ROUNDS = 30 };
+
+static struct race races[LINES];
+static struct scene scenes[LINES];
+static struct scene *scene; // of the race that is running
+static int64_t values[DL_MOST_VALUES];
+
+// ---- the contestants
+
+static void put_answer(uint16_t code)
+{
+    uint64_t answer = code;
+    memcpy(out, &answer, sizeof answer);
+}
+
+// A checked call changes the token's row. It is set back within the time of ours and of the peer alike; liboath has no row.
+static void set_row_back(void)
+{
+    *scene->token = scene->kept;
+}
+
+static void ours_login(uint64_t number)
+{
+    const struct desk_call *call = &scene->call;
+    (void)number;
+    set_row_back();
+    put_answer(dl_login(scene->table.bytes, call->table_len, call->serial, call->now, call->password.bytes, call->password.len,
+                        values, DL_MOST_VALUES));
+}
+
+static void ours_activate(uint64_t number)
+{
+    const struct desk_call *call = &scene->call;
+    (void)number;
+    set_row_back();
+    put_answer(dl_activate(scene->table.bytes, call->table_len, call->serial, call->now, call->password.bytes,
+                           call->password.len, call->following.bytes, call->following.len, values, DL_MOST_VALUES));
+}
+
+static void ours_sync(uint64_t number)
+{
+    const struct desk_call *call = &scene->call;
+    (void)number;
+    set_row_back();
+    put_answer(dl_sync(scene->table.bytes, call->table_len, call->serial, call->now, call->choice, call->password.bytes,
+                       call->password.len, call->following.bytes, call->following.len, values, DL_MOST_VALUES));
+}
+
+static void ours_query(uint64_t number)
+{
+    const struct desk_call *call = &scene->call;
+    (void)number;
+    put_answer(dl_query(scene->table.bytes, call->table_len, call->serial, call->now, values, DL_MOST_VALUES));
+}
+
+static void openssl_checked(uint64_t number)
+{
+    (void)number;
+    set_row_back();
+    put_answer(peer_checked_call(scene->table.rows, &scene->call, values));
+}
+
+static void openssl_query(uint64_t number)
+{
+    (void)number;
+    put_answer(peer_query(scene->table.rows, &scene->call, values));
+}
+
+// As the desk would answer, so that the results can be compared.
+static void put_oath_answer(int is_valid)
+{
+    enum desk_name name = scene->call.name;
+    put_answer(is_valid ? desk_rules[name].success : desk_wrong_code(name));
+}
+
+static void oath_single(uint64_t number)
+{
+    (void)number;
+    int found = scene->kind == DL_TIME_TOKEN
+        ? oath_totp_validate(secret, KEY_LEN, CLOCK, PERIOD, 0, scene->oath_window, scene->oath_password)
+        : oath_hotp_validate(secret, KEY_LEN, LONG_AGO - 1, scene->oath_window, scene->oath_password);
+    put_oath_answer(found >= 0);
+}
+
+// liboath has no pairs: the second password is held against the step behind the one that it found.
+static void oath_pair(uint64_t number)
+{
+    int steps;
+    (void)number;
+    put_oath_answer(
+        oath_totp_validate2(secret, KEY_LEN, CLOCK, PERIOD, 0, scene->oath_window, &steps, scene->oath_password) >= 0
+        && oath_totp_validate(secret, KEY_LEN, CLOCK + (steps + 1) * PERIOD, PERIOD, 0, 0, scene->oath_following) >= 0);
+}
+
+#define OPENSSL "C over OpenSSL EVP"
+#define OATH "liboath: no table"
+
+static const struct contestant contestants[CALLS][CONTESTANTS] = {
+    [CALL_LOGIN] = {{"dl_login", ours_login, 0, 0}, {OPENSSL, openssl_checked, 0, 0}, {OATH, oath_single, 0, 0}},
+    [CALL_ACTIVATE] = {{"dl_activate", ours_activate, 0, 0}, {OPENSSL, openssl_checked, 0, 0}, {OATH, oath_pair, 0, 0}},
+    [CALL_SYNC] = {{"dl_sync", ours_sync, 0, 0}, {OPENSSL, openssl_checked, 0, 0}, {OATH, oath_pair, 0, 0}},
+    [CALL_QUERY] = {{"dl_query", ours_query, 0, 0}, {"C, rows as a struct", openssl_query, 0, 0}},
+};
+
+static struct race race_of(const struct line *line)
+{
+    struct race race = {.what = line->what, .rounds = ROUNDS, .calls = line->calls, .in_a_call = 1, .target = {0, 1.3, 1.0}};
+    memcpy(race.contestants, contestants[line->name], sizeof race.contestants);
+    return race;
+}
+
+// ---- before the timing: ours, the peer and the tests' reference give one answer and leave one table
+
+static struct outcome {
+    uint64_t code;
+    int64_t values[DL_MOST_VALUES];
+    uint8_t table[sizeof scenes->table];
+} by_ours, by_peer, by_reference;
+
+static void take_outcome(struct outcome *outcome, const struct contestant *contestant)
+{
+    memset(values, 0, sizeof values);
+    contestant->call(0);
+    memcpy(&outcome->code, out, sizeof outcome->code);
+    memcpy(outcome->values, values, sizeof values);
+    memcpy(outcome->table, scene->table.bytes, sizeof outcome->table);
+    set_row_back();
+}
+
+static void take_reference(struct outcome *outcome)
+{
+    memcpy(outcome->table, scene->table.bytes, sizeof outcome->table);
+    struct desk_answer answer = desk_answer_to(outcome->table, &scene->call);
+    outcome->code = answer.code;
+    memcpy(outcome->values, answer.values, sizeof outcome->values);
+}
+
+static void compare(const struct line *line, const struct race *race)
+{
+    uint16_t expected = line->is_right ? desk_rules[line->name].success : desk_wrong_code(line->name);
+    take_outcome(&by_ours, &race->contestants[0]);
+    take_outcome(&by_peer, &race->contestants[1]);
+    take_reference(&by_reference);
+    if (by_ours.code != expected || memcmp(&by_ours, &by_peer, sizeof by_ours) != 0
+        || memcmp(&by_ours, &by_reference, sizeof by_ours) != 0)
+        die("a call's answer or table is not as it should be");
+}
+
+static void set_up(void)
+{
+    make_key();
+    otp_open_library();
+    if (oath_init() != OATH_OK)
+        die("liboath does not start");
+    for (size_t i = 0; i < LINES; i++) {
+        make_scene(&scenes[i], &lines[i]);
+        races[i] = race_of(&lines[i]);
+        scene = &scenes[i];
+        compare(&lines[i], &races[i]);
+    }
+}
+
+// ---- growth
+
+enum { SIZES = 3 };
+
+#define MOST_GROWTH 1.3
+
+// The same call on three sizes. A pair's candidates are the steps that have another one behind them.
+static const struct growth {
+    const char *what;
+    enum line_name lines[SIZES];
+    double counts[SIZES];
+} growths[] = {
+    {"rows: query, the serial last", {QUERY_1, QUERY_16, QUERY_256}, {1, 16, 256}},
+    {"candidates: all wrong, SM3", {WRONG_SM3, MEDIUM_SM3, LARGE_SM3}, {5, 10, 20}},
+    {"candidates: all wrong, SM4", {WRONG_SM4, MEDIUM_SM4, LARGE_SM4}, {5, 10, 20}},
+};
+
+// What one row or candidate more costs, between a size and the one before it.
+static double one_more(const struct growth *growth, size_t size, size_t contestant)
+{
+    double before = races[growth->lines[size - 1]].contestants[contestant].best;
+    double after = races[growth->lines[size]].contestants[contestant].best;
+    return (after - before) / (growth->counts[size] - growth->counts[size - 1]);
+}
+
+// The second size and the third say what one more costs; the cost is linear if that is no more among many than among few.
+static void print_size(const struct growth *growth, size_t size)
+{
+    const struct contestant *all = races[growth->lines[size]].contestants;
+    printf("| %-28s | %5.0f | %8.0f | %8.0f |", growth->what, growth->counts[size], all[0].best, all[1].best);
+    if (size == 0)
+        printf(" %12s | %12s |", "-", "-");
+    else
+        printf(" %12.1f | %12.1f |", one_more(growth, size, 0), one_more(growth, size, 1));
+    if (size < SIZES - 1) {
+        printf(" %6s | %7s | %-3s |\n", "-", "-", "-");
+        return;
+    }
+    double times = one_more(growth, size, 0) / one_more(growth, size - 1, 0);
+    printf(" %6.2f | %7.1f | %-3s |\n", times, MOST_GROWTH, times <= MOST_GROWTH ? "yes" : "NO");
+}
+
+static void print_growths(void)
+{
+    printf("\n| %-28s | %5s | %8s | %8s | %12s | %12s | %6s | %7s | %-3s |\n", "Cost by", "Count", "Ours, ns", "Peer, ns",
+           "One more, ns", "Peer's, ns", "Growth", "At most", "Met");
+    puts("|---|--:|--:|--:|--:|--:|--:|--:|---|");
+    for (size_t i = 0; i < SIZES * sizeof growths / sizeof *growths; i++)
+        print_size(&growths[i / SIZES], i % SIZES);
+}
+
+int main(void)
+{
+    set_up();
+    for (size_t i = 0; i < PASSES * LINES; i++) {
+        scene = &scenes[i % LINES];
+        run_race(&races[i % LINES]);
+    }
+    for (size_t i = 0; i < LINES; i++)
+        print_race(&races[i]);
+    print_growths();
+    print_refusals();
+    return 0;
+}

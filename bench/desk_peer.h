@@ -1,0 +1,278 @@
+// The desk's login, activate, sync and query in C over OpenSSL, as a good program without the proved library would have them: the
+// benchmark's peer. The rules and codes are those of tests/desk_reference.h; all that takes time is written for speed here.
+#ifndef DESK_PEER_H
+#define DESK_PEER_H
+
+#include "../tests/desk_reference.h"
+
+#include <endian.h>
+
+// ---- the row, laid over the table's bytes; its numbers are big-endian
+
+struct peer_row {
+    uint8_t state, kind, algorithm, digits, period, limit, errors, key_len;
+    uint64_t serial;
+    uint8_t key[OTP_MOST_KEY];
+    uint64_t next;
+    uint16_t offset, zeros;
+    uint32_t wait;
+    uint64_t expiry, locked_at, last_use, end;
+};
+
+_Static_assert(sizeof(struct peer_row) == DL_ROW_BYTES, "the row is laid out as document 01 says");
+
+// The first row that is not empty and has the serial, or NULL.
+static inline struct peer_row *peer_find(struct peer_row *table, size_t table_len, uint64_t serial)
+{
+    uint64_t wanted = htobe64(serial);
+    for (struct peer_row *row = table; row < table + table_len / DL_ROW_BYTES; row++)
+        if (row->serial == wanted && row->state != DL_STATE_EMPTY)
+            return row;
+    return NULL;
+}
+
+static inline int peer_kind_kept(const struct peer_row *row)
+{
+    uint64_t next = be64toh(row->next);
+    uint16_t offset = be16toh(row->offset);
+    if (row->kind == DL_TIME_TOKEN)
+        return 1 <= row->period && row->period <= ROW_MOST_PERIOD && next <= CLOCK_END + WINDOW_FARTHEST
+            && offset <= 2 * WINDOW_FARTHEST;
+    return row->kind == DL_EVENT_TOKEN && row->period == 0 && next <= COUNT_END && offset == WINDOW_FARTHEST;
+}
+
+static inline int peer_times_kept(const struct peer_row *row)
+{
+    uint32_t wait = be32toh(row->wait);
+    return ROW_LEAST_WAIT <= wait && wait <= ROW_MOST_WAIT && be64toh(row->expiry) <= CLOCK_END
+        && (row->state == DL_STATE_LOCKED_BY_ERRORS ? be64toh(row->locked_at) < CLOCK_END : row->locked_at == 0)
+        && be64toh(row->last_use) < CLOCK_END;
+}
+
+static inline int peer_well_formed(const struct peer_row *row)
+{
+    static const uint8_t zeros[OTP_MOST_KEY - OTP_LEAST_KEY];
+    return row->state <= DL_STATE_VOID && (row->algorithm == OTP_SM3 || row->algorithm == OTP_SM4)
+        && OTP_LEAST_DIGITS <= row->digits && row->digits <= OTP_MOST_DIGITS && 1 <= row->limit && row->limit <= ROW_MOST_LIMIT
+        && OTP_LEAST_KEY <= row->key_len && row->key_len <= OTP_MOST_KEY
+        && memcmp(row->key + row->key_len, zeros, OTP_MOST_KEY - row->key_len) == 0
+        && row->zeros == 0 && row->end == 0 && peer_kind_kept(row) && peer_times_kept(row);
+}
+
+// ---- the password, with what all candidates share laid ready once a call
+
+struct peer_token {
+    const struct peer_row *row;
+    uint64_t modulus; // 10^digits
+    uint8_t message[OTP_MOST_KEY + OTP_BLOCK]; // the key, then ID, in which only the step changes
+};
+
+static inline void peer_prepare(struct peer_token *token, const struct peer_row *row)
+{
+    static const uint64_t moduli[] = {[6] = 1000000, 10000000, 100000000, 1000000000, 10000000000};
+    token->row = row;
+    token->modulus = moduli[row->digits];
+    memcpy(token->message, row->key, row->key_len);
+    memset(token->message + row->key_len, 0, OTP_BLOCK);
+    otp_require(row->algorithm == OTP_SM3 || EVP_EncryptInit_ex2(otp_library.cipher, NULL, row->key, NULL, NULL));
+}
+
+// The sum of the output's n words.
+static inline uint32_t peer_cut(const uint32_t *output, size_t n)
+{
+    uint32_t sum = 0;
+    for (size_t i = 0; i < n; i++)
+        sum += be32toh(output[i]);
+    return sum;
+}
+
+// As a number: its digits need not be written to be compared.
+static inline uint64_t peer_password(struct peer_token *token, uint64_t step)
+{
+    uint8_t *id = token->message + token->row->key_len;
+    uint64_t factor = htobe64(token->row->kind == DL_TIME_TOKEN ? step : step << 32);
+    uint32_t output[8];
+    int n;
+    memcpy(id, &factor, sizeof factor);
+    if (token->row->algorithm == OTP_SM4) {
+        otp_require(EVP_EncryptUpdate(otp_library.cipher, (uint8_t *)output, &n, id, OTP_BLOCK));
+        return peer_cut(output, 4) % token->modulus;
+    }
+    otp_require(EVP_DigestInit_ex2(otp_library.digest, otp_library.sm3, NULL)
+                && EVP_DigestUpdate(otp_library.digest, token->message, token->row->key_len + OTP_BLOCK)
+                && EVP_DigestFinal_ex(otp_library.digest, (uint8_t *)output, NULL));
+    return peer_cut(output, 8) % token->modulus;
+}
+
+// ---- the check
+
+// The candidates are the steps from first up to, not including, end.
+struct peer_window {
+    int64_t first, end;
+};
+
+static inline int64_t peer_larger(int64_t one, int64_t other)
+{
+    return one > other ? one : other;
+}
+
+static inline int64_t peer_smaller(int64_t one, int64_t other)
+{
+    return one < other ? one : other;
+}
+
+static inline struct peer_window peer_window(const struct peer_row *row, uint8_t size, uint64_t now)
+{
+    static const int64_t time_widths[] = {[DL_SMALL] = 2, [DL_MEDIUM] = 5, [DL_LARGE] = 10};
+    static const int64_t event_widths[] = {[DL_SMALL] = 10, [DL_MEDIUM] = 20, [DL_LARGE] = 50};
+    int64_t next = (int64_t)be64toh(row->next);
+    if (row->kind == DL_EVENT_TOKEN)
+        return (struct peer_window){peer_larger(next - 1, 0), peer_smaller(next + event_widths[size], COUNT_END)};
+    int64_t clock_step = (int64_t)now / row->period, centre = clock_step + be16toh(row->offset) - WINDOW_FARTHEST;
+    int64_t first = peer_larger(centre - time_widths[size], clock_step - WINDOW_FARTHEST);
+    return (struct peer_window){
+        peer_larger(first, 0), peer_smaller(centre + time_widths[size], clock_step + WINDOW_FARTHEST) + 1};
+}
+
+// What was typed in, as numbers.
+struct peer_typed {
+    uint64_t password, following;
+};
+
+static inline int peer_read_password(const struct window_typed *typed, uint64_t *number)
+{
+    *number = 0;
+    if (typed->len < OTP_LEAST_DIGITS || typed->len > OTP_MOST_DIGITS)
+        return 0;
+    for (size_t i = 0; i < typed->len; i++) {
+        unsigned digit = typed->bytes[i] - '0';
+        if (digit > 9)
+            return 0;
+        *number = *number * 10 + digit;
+    }
+    return 1;
+}
+
+// The smallest step from first up to, not including, end that has the password, and of a pair the step behind it the following
+// one; or -1.
+static inline int64_t peer_sweep(struct peer_token *token, struct peer_typed typed, int is_pair, int64_t first, int64_t end)
+{
+    for (int64_t step = first; step < end; step++)
+        if (peer_password(token, (uint64_t)step) == typed.password
+            && (!is_pair || peer_password(token, (uint64_t)step + 1) == typed.following))
+            return step;
+    return -1;
+}
+
+// DL_DONE with the accepted step, DL_USED or DL_WRONG. Fresh steps come first: if one matches, no used one needs to be tried.
+static inline uint16_t peer_check(const struct peer_row *row, const struct desk_call *call, struct peer_typed typed,
+                                  int64_t *accepted)
+{
+    int is_pair = desk_rules[call->name].check == PAIR;
+    struct peer_window window = peer_window(row, desk_window_size(call), call->now);
+    int64_t next = (int64_t)be64toh(row->next), end = window.end - is_pair;
+    struct peer_token token;
+    if (call->password.len != row->digits || (is_pair && call->following.len != row->digits))
+        return DL_WRONG;
+    peer_prepare(&token, row);
+    *accepted = peer_sweep(&token, typed, is_pair, peer_larger(window.first, next), end) + is_pair;
+    if (*accepted >= is_pair)
+        return DL_DONE;
+    return peer_sweep(&token, typed, is_pair, window.first, peer_smaller(next, end)) < 0 ? DL_WRONG : DL_USED;
+}
+
+// ---- a call on its row
+
+static inline int peer_wait_is_over(const struct peer_row *row, uint64_t now)
+{
+    uint64_t locked_at = be64toh(row->locked_at);
+    return row->state == DL_STATE_LOCKED_BY_ERRORS && now >= locked_at && now - locked_at >= be32toh(row->wait);
+}
+
+static inline void peer_become(struct peer_row *row, uint8_t state)
+{
+    row->state = state;
+    row->locked_at = 0;
+}
+
+static inline void peer_add_error(struct peer_row *row, const struct desk_call *call)
+{
+    row->errors += row->errors < ROW_MOST_ERRORS;
+    if (!desk_is_login(call->name) || row->errors < row->limit)
+        return;
+    row->state = DL_STATE_LOCKED_BY_ERRORS;
+    row->locked_at = htobe64(call->now);
+}
+
+static inline void peer_accept(struct peer_row *row, const struct desk_call *call, int64_t step, int64_t *values)
+{
+    int64_t offset = row->kind == DL_TIME_TOKEN ? step - (int64_t)(call->now / row->period) : 0;
+    if (desk_rules[call->name].becomes != DL_STATE_EMPTY)
+        peer_become(row, desk_rules[call->name].becomes);
+    row->errors = 0;
+    row->next = htobe64((uint64_t)step + 1);
+    row->offset = htobe16((uint16_t)(offset + WINDOW_FARTHEST));
+    row->last_use = htobe64(call->now);
+    values[0] = step;
+    values[1] = offset;
+}
+
+static inline uint16_t peer_serve(struct peer_row *row, const struct desk_call *call, struct peer_typed typed, int64_t *values)
+{
+    int64_t step;
+    if (peer_wait_is_over(row, call->now)) {
+        peer_become(row, DL_STATE_READY);
+        row->errors = 0;
+    }
+    if (!(desk_rules[call->name].states >> row->state & 1))
+        return desk_state_codes[row->state];
+    if (call->now >= be64toh(row->expiry))
+        return DL_TOKEN_EXPIRED;
+    uint16_t found = peer_check(row, call, typed, &step);
+    if (found == DL_DONE) {
+        peer_accept(row, call, step, values);
+        return desk_rules[call->name].success;
+    }
+    peer_add_error(row, call);
+    return found == DL_USED ? desk_used_code(call->name) : desk_wrong_code(call->name);
+}
+
+// ---- the calls; compiled apart from their caller, as a library's are
+
+static inline int peer_lent_ok(const struct desk_call *call)
+{
+    return call->table_len % DL_ROW_BYTES == 0 && call->table_len >= DL_ROW_BYTES
+        && call->table_len <= DL_ROW_BYTES * DL_MOST_ROWS && call->now < CLOCK_END && call->values_len >= DL_MOST_VALUES;
+}
+
+// A login, an activate or a sync: its code. A success sets the values.
+__attribute__((noipa)) static uint16_t peer_checked_call(struct peer_row *table, const struct desk_call *call, int64_t *values)
+{
+    struct peer_typed typed = {0, 0};
+    if (!peer_lent_ok(call) || !peer_read_password(&call->password, &typed.password)
+        || (desk_rules[call->name].check == PAIR && !peer_read_password(&call->following, &typed.following))
+        || (call->name == CALL_SYNC && call->choice != DL_SYNC_MEDIUM && call->choice != DL_SYNC_LARGE))
+        return DL_BAD_ARGUMENT;
+    struct peer_row *row = peer_find(table, call->table_len, call->serial);
+    if (row == NULL)
+        return DL_NO_TOKEN;
+    return peer_well_formed(row) ? peer_serve(row, call, typed, values) : DL_DAMAGED_ROW;
+}
+
+__attribute__((noipa)) static uint16_t peer_query(struct peer_row *table, const struct desk_call *call, int64_t *values)
+{
+    if (!peer_lent_ok(call))
+        return DL_BAD_ARGUMENT;
+    const struct peer_row *row = peer_find(table, call->table_len, call->serial);
+    if (row == NULL)
+        return DL_NO_TOKEN;
+    if (!peer_well_formed(row))
+        return DL_DAMAGED_ROW;
+    int opened = peer_wait_is_over(row, call->now);
+    values[0] = opened ? DL_STATE_READY : row->state;
+    values[1] = opened ? 0 : row->errors;
+    values[2] = (int64_t)be64toh(row->last_use);
+    return DL_QUERIED;
+}
+
+#endif
