@@ -6,7 +6,6 @@ use mathlib.Core.List.{List}
 use native.Mathlib.Omega.{arith}
 use lib.ListN.{length}
 use Rattle.words.specs.ListsLaws.{by-test}
-use Rattle.words.specs.Tables.{and-right}
 use Rattle.window.specs.PasswordAt.{PasswordRule}
 use Rattle.row.specs.declared.Row.{Row}
 use Rattle.row.specs.declared.reading.Place.{Place}

@@ -16,7 +16,7 @@ pub fn login(table: &mut [u8], serial: u64, clock: Seconds, password: &[u8]) -> 
     ensures { λ r. ⌜ r ≡ deskAfter passwordAt (DeskCall.named (Request.login (now (password .entry))) serial (clock .0)) (now (table .entry)) .answer ⌝ }
     ensures { λ _. ⌜ now (table .exit) ≡ deskAfter passwordAt (DeskCall.named (Request.login (now (password .entry))) serial (clock .0)) (now (table .entry)) .table ⌝ }
 {
-    if !(password_ok(password)) {
+    if !password_ok(password) {
         return Answer::Refused(Refusal::BadArgument);
     }
     on_token(
@@ -85,7 +85,7 @@ pub fn unlock(table: &mut [u8], serial: u64, clock: Seconds, password: &[u8]) ->
     ensures { λ r. ⌜ r ≡ deskAfter passwordAt (DeskCall.named (Request.unlock (now (password .entry))) serial (clock .0)) (now (table .entry)) .answer ⌝ }
     ensures { λ _. ⌜ now (table .exit) ≡ deskAfter passwordAt (DeskCall.named (Request.unlock (now (password .entry))) serial (clock .0)) (now (table .entry)) .table ⌝ }
 {
-    if !(password_ok(password)) {
+    if !password_ok(password) {
         return Answer::Refused(Refusal::BadArgument);
     }
     on_token(
@@ -104,7 +104,7 @@ pub fn resume(table: &mut [u8], serial: u64, clock: Seconds, password: &[u8]) ->
     ensures { λ r. ⌜ r ≡ deskAfter passwordAt (DeskCall.named (Request.resume (now (password .entry))) serial (clock .0)) (now (table .entry)) .answer ⌝ }
     ensures { λ _. ⌜ now (table .exit) ≡ deskAfter passwordAt (DeskCall.named (Request.resume (now (password .entry))) serial (clock .0)) (now (table .entry)) .table ⌝ }
 {
-    if !(password_ok(password)) {
+    if !password_ok(password) {
         return Answer::Refused(Refusal::BadArgument);
     }
     on_token(
