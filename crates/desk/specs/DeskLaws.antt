@@ -2,10 +2,10 @@
 use Prim.Native.Nat.{ℕ, _+_, _^_, _≤_, _<_}
 use mathlib.Core.Path.{_≡_, refl, sym, ap, _∙_}
 use mathlib.Core.Bool.{true, false, _&&_, cond}
-use mathlib.Core.List.{List}
+use mathlib.Core.List.{List, []}
 use borrow.Author.Tests.{ltb-true}
 use lib.ListN.{length}
-use Rattle.words.specs.ListsLaws.{and-true, and-false}
+use Rattle.words.specs.ListsLaws.{by-test, and-true, and-false}
 use Rattle.words.specs.Tables.{and-right}
 use Rattle.window.specs.PasswordAt.{PasswordRule}
 use Rattle.row.specs.declared.reading.Place.{Place}
@@ -16,7 +16,7 @@ use Rattle.token.specs.declared.calls.Call.{Call}
 use Rattle.token.specs.declared.answers.Refusal.{Refusal}
 use Rattle.token.specs.declared.answers.Answer.{Answer}
 use Rattle.token.specs.OnTable.{Result, servedAt, queriedAt}
-use Rattle.desk.specs.Requests.{Request, DeskCall, tableOk, clockOk, requestOk}
+use Rattle.desk.specs.Requests.{Request, DeskCall, tableOk, clockOk, passwordOk, requestOk}
 use Rattle.desk.specs.Desk.{refused, requestedAt, requestedOf, deskAfter}
 
 -- a call other than load and query, its own arguments in range
@@ -70,6 +70,35 @@ module _ (passwords : PasswordRule) (request : Request) (clock serial : ℕ) (s 
         → table ≡ calledOn passwords call clock challenge presented following serial s .table
         → (answer ≡ deskAfter passwords (DeskCall.named request serial clock) s .answer) × (table ≡ deskAfter passwords (DeskCall.named request serial clock) s .table)
     desk-answered a t = (a ∙ ap (λ (x : Result). x .answer) desk-called, t ∙ ap (λ (x : Result). x .table) desk-called)
+
+-- ---- one password and no challenge
+
+unfoldable pub calledAlone : PasswordRule → Call → ℕ → List ℕ → ℕ → List ℕ → Result
+calledAlone passwords call clock password serial s =
+    cond (passwordOk password) (calledOn passwords call clock [] password [] serial s) (refused Refusal.BadArgument s)
+
+module _ (passwords : PasswordRule) (call : Call) (clock : ℕ) (password : List ℕ) (serial : ℕ) (s : List ℕ) where
+  pub alone-unfit : passwordOk password ≡ false
+      → (Answer.Refused Refusal.BadArgument ≡ calledAlone passwords call clock password serial s .answer) × (s ≡ calledAlone passwords call clock password serial s .table)
+  unfolding calledAlone
+  alone-unfit t = rw t (refl, refl)
+
+  pub alone-fit : passwordOk password ≡ true → {answer : Answer} {table : List ℕ} → answer ≡ calledOn passwords call clock [] password [] serial s .answer
+      → table ≡ calledOn passwords call clock [] password [] serial s .table
+      → (answer ≡ calledAlone passwords call clock password serial s .answer) × (table ≡ calledAlone passwords call clock password serial s .table)
+  unfolding calledAlone
+  alone-fit t a b = rw t (a, b)
+
+  -- such a request is such a call
+  pub desk-alone : (request : Request) → requestOk request ≡ passwordOk password
+      → ((at : ℕ) → requestedAt passwords request clock s at ≡ servedAt passwords s at call clock [] password [])
+      → {answer : Answer} {table : List ℕ} → answer ≡ calledAlone passwords call clock password serial s .answer → table ≡ calledAlone passwords call clock password serial s .table
+      → (answer ≡ deskAfter passwords (DeskCall.named request serial clock) s .answer) × (table ≡ deskAfter passwords (DeskCall.named request serial clock) s .table)
+  unfolding calledAlone
+  desk-alone request fit same a b =
+      by-test (passwordOk password)
+      (λ t. desk-answered passwords request clock serial s (fit ∙ t) call [] password [] same (rw t at a) (rw t at b))
+      (λ t. let u = desk-unfit passwords request clock serial s (fit ∙ t) in (rw t at a ∙ u .0, rw t at b ∙ u .1))
 
 -- ---- a query
 

@@ -7,14 +7,19 @@ use token::Call;
 use token::Refusal;
 use window::Seconds;
 ghost use mathlib.Core.Path.{_≡_};
+ghost use mathlib.Core.List.{[]};
 ghost use Rattle.window.specs.PasswordAt.{passwordAt};
+ghost use Rattle.token.specs.Calls.{checkingOf};
+ghost use Rattle.token.specs.ServingLaws.{Fitting};
 ghost use Rattle.desk.specs.Requests.{Request, DeskCall};
 ghost use Rattle.desk.specs.Desk.{syncCall, deskAfter};
+ghost use Rattle.desk.specs.DeskLaws.{calledAlone};
 
-// The call `login`.
-pub fn login(table: &mut [u8], serial: u64, clock: Seconds, password: &[u8]) -> Answer
-    ensures { λ r. ⌜ r ≡ deskAfter passwordAt (DeskCall.named (Request.login (now (password .entry))) serial (clock .0)) (now (table .entry)) .answer ⌝ }
-    ensures { λ _. ⌜ now (table .exit) ≡ deskAfter passwordAt (DeskCall.named (Request.login (now (password .entry))) serial (clock .0)) (now (table .entry)) .table ⌝ }
+// A call with one password and no challenge.
+fn alone(table: &mut [u8], serial: u64, clock: Seconds, call: Call, password: &[u8]) -> Answer
+    requires { ⌜ Fitting (checkingOf call) [] ⌝ }
+    ensures { λ r. ⌜ r ≡ calledAlone passwordAt call (clock .0) (now (password .entry)) serial (now (table .entry)) .answer ⌝ }
+    ensures { λ _. ⌜ now (table .exit) ≡ calledAlone passwordAt call (clock .0) (now (password .entry)) serial (now (table .entry)) .table ⌝ }
 {
     if !password_ok(password) {
         return Answer::Refused(Refusal::BadArgument);
@@ -23,11 +28,19 @@ pub fn login(table: &mut [u8], serial: u64, clock: Seconds, password: &[u8]) -> 
         table,
         serial,
         clock,
-        Call::Login,
+        call,
         &password[0..0],
         password,
         &password[0..0],
     )
+}
+
+// The call `login`.
+pub fn login(table: &mut [u8], serial: u64, clock: Seconds, password: &[u8]) -> Answer
+    ensures { λ r. ⌜ r ≡ deskAfter passwordAt (DeskCall.named (Request.login (now (password .entry))) serial (clock .0)) (now (table .entry)) .answer ⌝ }
+    ensures { λ _. ⌜ now (table .exit) ≡ deskAfter passwordAt (DeskCall.named (Request.login (now (password .entry))) serial (clock .0)) (now (table .entry)) .table ⌝ }
+{
+    alone(table, serial, clock, Call::Login, password)
 }
 
 // The call `challenge login`.
@@ -85,18 +98,7 @@ pub fn unlock(table: &mut [u8], serial: u64, clock: Seconds, password: &[u8]) ->
     ensures { λ r. ⌜ r ≡ deskAfter passwordAt (DeskCall.named (Request.unlock (now (password .entry))) serial (clock .0)) (now (table .entry)) .answer ⌝ }
     ensures { λ _. ⌜ now (table .exit) ≡ deskAfter passwordAt (DeskCall.named (Request.unlock (now (password .entry))) serial (clock .0)) (now (table .entry)) .table ⌝ }
 {
-    if !password_ok(password) {
-        return Answer::Refused(Refusal::BadArgument);
-    }
-    on_token(
-        table,
-        serial,
-        clock,
-        Call::Unlock,
-        &password[0..0],
-        password,
-        &password[0..0],
-    )
+    alone(table, serial, clock, Call::Unlock, password)
 }
 
 // The call `resume`.
@@ -104,18 +106,7 @@ pub fn resume(table: &mut [u8], serial: u64, clock: Seconds, password: &[u8]) ->
     ensures { λ r. ⌜ r ≡ deskAfter passwordAt (DeskCall.named (Request.resume (now (password .entry))) serial (clock .0)) (now (table .entry)) .answer ⌝ }
     ensures { λ _. ⌜ now (table .exit) ≡ deskAfter passwordAt (DeskCall.named (Request.resume (now (password .entry))) serial (clock .0)) (now (table .entry)) .table ⌝ }
 {
-    if !password_ok(password) {
-        return Answer::Refused(Refusal::BadArgument);
-    }
-    on_token(
-        table,
-        serial,
-        clock,
-        Call::Resume,
-        &password[0..0],
-        password,
-        &password[0..0],
-    )
+    alone(table, serial, clock, Call::Resume, password)
 }
 
 fn sync_call(choice: u8) -> Call

@@ -1,64 +1,22 @@
-use mathlib.Core.Path.{refl, sym, _∙_}
-use mathlib.Core.List.{[]}
-use borrow.Author.Tests.{not-true, not-false}
+use mathlib.Core.Path.{refl}
 use Rattle.window.specs.PasswordAt.{passwordAt}
 use Rattle.token.specs.declared.calls.Call.{Call}
 use Rattle.desk.specs.Requests.{Request, requestOk}
 use Rattle.desk.specs.Desk.{requestedAt}
-use Rattle.desk.specs.DeskLaws.{desk-unfit, desk-answered}
-use Rattle.otp.specs.Password.{challengeOk}
+use Rattle.desk.specs.DeskLaws.{desk-alone}
 use borrow.Author.Needs.{needs}
 use Rattle.desk.proofs.checked_calls.login.Statement.{statement}
 use Rattle.desk.proofs.checked_calls.login.Tie as tie
 
-password-ok-requires : tie.Need-password-ok-requires
-password-ok-requires c κs = search needs
-
-returns : tie.Need-returns
-unfolding requestOk
-returns c = let a = c .before .before .before .before .args in desk-unfit passwordAt (Request.login (a .password .now)) (a .clock .0) (a .serial) (a .table .now) (sym (c .before .password-ok .ensures) ∙ not-true _ (c .if1 .taken))
-
-sub-on-token : tie.Need-sub-on-token
-sub-on-token c = search needs
-
-part-on-token-start : tie.Need-part-on-token-start
-part-on-token-start c = search needs
-
-part-on-token-end : tie.Need-part-on-token-end
-part-on-token-end c = search needs
-
-sub-on-token-2 : tie.Need-sub-on-token-2
-sub-on-token-2 c = search needs
-
-part-on-token-start-2 : tie.Need-part-on-token-start-2
-part-on-token-start-2 c = search needs
-
-part-on-token-end-2 : tie.Need-part-on-token-end-2
-part-on-token-end-2 c = search needs
-
-on-token-requires : tie.Need-on-token-requires
-unfolding challengeOk
-on-token-requires c κs = (refl, refl)
+alone-requires : tie.Need-alone-requires
+alone-requires c κs = search needs
 
 same-length : tie.Need-same-length
 same-length c = search needs
 
-returns-2 : tie.Need-returns-2
+returns : tie.Need-returns
 unfolding requestOk requestedAt
-returns-2 c = let a = c .before .before .before .before .before .before .before .before .before .before .args in desk-answered passwordAt (Request.login (a .password .now)) (a .clock .0) (a .serial) (a .table .now) (sym (c .before .before .before .before .before .before .before .password-ok .ensures) ∙ not-false _ (c .before .before .before .before .before .before .if1 .left)) Call.Login [] (a .password .now) [] (λ at. refl) (c .before .before .on-token .ensures .0) (c .before .before .on-token .ensures .1)
+returns c = let a = c .before .before .before .before .before .before .args in desk-alone passwordAt Call.Login (a .clock .0) (a .password .now) (a .serial) (a .table .now) (Request.login (a .password .now)) refl (λ at. refl) (c .before .before .alone .ensures .0) (c .before .before .alone .ensures .1)
 
 pub login-spec : {M : Type 1} → statement M
-login-spec =
-    tie.close
-    (tie.spec
-    password-ok-requires
-    returns
-    sub-on-token
-    part-on-token-start
-    part-on-token-end
-    sub-on-token-2
-    part-on-token-start-2
-    part-on-token-end-2
-    on-token-requires
-    same-length
-    returns-2)
+login-spec = tie.close (tie.spec alone-requires same-length returns)
