@@ -1,34 +1,22 @@
 -- What each function of the code returns, over what the functions that it calls ensure.
 use Prim.Native.Nat.{ℕ, _+_, _-_, _*_, _≤_, _<_}
 use mathlib.Core.Path.{_≡_, refl, sym, ap, _∙_}
-use mathlib.Core.List.{List, [], _∷_, _++_, append-assoc, append-nil}
+use mathlib.Core.List.{List, [], _∷_, _++_, flatten, append-assoc, append-nil}
 use native.Mathlib.Numerals.{add-one}
 use native.Mathlib.Omega.{arith}
-use borrow.Author.Tests.{ltb-true, ltb-false}
-use lib.Dec.{ltb}
 use lib.ListN.{length, take, drop, set, replicate, length-append, length-drop, length-replicate, take-append-drop}
-use lib.Seq.{length-take-le, take-at, take-add, take-all, take-append-add, take-append-seam, take-length, take-suc-set, take-take}
-use Rattle.words.specs.ListsLaws.{by-test}
+use lib.Seq.{length-take-le, take-add, take-all, take-append-add, take-append-seam, take-length, take-suc-set, take-take}
 use Rattle.bytes.specs.Bytes.{indexOf, slice}
-use Rattle.words.specs.PutLaws.{put-part}
 use Rattle.password_lines.specs.Line.{lineAnswer, refusal, printedOf}
 use Rattle.password_lines.specs.declared.Printed.{Printed}
 use Rattle.password_lines.specs.LineLaws.{long-line, answer-length}
-use Rattle.otp_lines.specs.Stream.{lineFeed, answered, fed, finished, Held, Follows, Put}
-use Rattle.otp_lines.specs.StreamLaws.{pieces-do-not-matter, fed-line, fed-rest, held-nothing}
+use Rattle.lines.specs.Lines.{lineFeed, behind, cut, last, Held, Put}
+use Rattle.lines.specs.LinesLaws.{pieces-do-not-matter, cut-line, cut-rest}
+use Rattle.lines.specs.BufferLaws.{held-nothing, held-none, held-some}
+use Rattle.otp_lines.specs.Stream.{answered, fed, finished, Follows}
+use Rattle.otp_lines.specs.StreamLaws.{answered-join}
 
 -- ---- the output
-
--- a text was copied into the part of the output that is as long
-pub text-put : (s : List ℕ) (at : ℕ) (b : List ℕ) {part : List ℕ} → at + length b ≤ length s
-    → part ≡ take (length b) b ++ drop (length b) (take (at + length b - at) (drop at s))
-    → Put s at b (take at s ++ (part ++ drop (at + length b - at) (drop at s))) (at + length b)
-text-put s at b h e =
-    let l : length (take at s ++ b) ≡ at + length b = rw (length-append, length-take-le at s (omega arith)) in
-    record {
-      place = refl;
-      front = rw (put-part s at b h e, ← append-assoc (take at s) b (drop (at + length b) s)) (take-at (take at s ++ b) (drop (at + length b) s) (at + length b) l);
-    }
 
 -- the answer's text in what `answer` gives
 printed-text : (line : List ℕ) {r : Printed} → r ≡ printedOf (lineAnswer line) → (r .len ≡ length (lineAnswer line)) × (take (r .len) (r .bytes) ≡ lineAnswer line)
@@ -60,55 +48,26 @@ module _ (s : List ℕ) (at : ℕ) (line : List ℕ) {r : Printed} {after : List
 
 -- ---- the pending line
 
-held-length : (line : List ℕ) (n : ℕ) (p : List ℕ) → length line ≡ 256 → Held line n p → n ≤ 256 → length p ≡ n
-held-length line n p size held l = ap length (held .short l) ∙ length-take-le n line (omega arith)
-
-module _ (line : List ℕ) (n : ℕ) (part : List ℕ) (size : length line ≡ 256) (p : List ℕ) (held : Held line n p) where
-  pub extend-long : 256 < n + length part → Held line 257 (p ++ part)
-  extend-long l =
-      record {
-        short = λ m. absurd (omega arith);
-        long = λ m. rw length-append
-            (by-test (ltb 256 n)
-            (λ t. omega (arith, held .long (ltb-true 256 n t)))
-            (λ f. omega (arith, held-length line n p size held (ltb-false 256 n f))));
-      }
-
-  pub extend-done : {after : List ℕ} {end : ℕ} → n + length part ≤ 256 → Put line n part after end → Held after end (p ++ part)
-  extend-done l d =
-      record {
-        short = λ m. rw (d .front, held .short (omega arith));
-        long = λ m. absurd (omega (arith, d .place));
-      }
-
 module _ (line : List ℕ) (n : ℕ) (s : List ℕ) (at : ℕ) {after : List ℕ} {end : ℕ} (p : List ℕ) (held : Held line n p) where
-  pub pending-long : 256 < n → Put s at (refusal ++ (lineFeed ∷ [])) after end → Put s at (answered p) after end
-  pending-long l d = rw (long-line p (held .long l)) d
+  pub pending-long : length line ≡ 256 → 256 < n → Put s at (refusal ++ (lineFeed ∷ [])) after end → Put s at (answered p) after end
+  pending-long size l d = rw (long-line p (omega (arith, size, held .long (omega (arith, size))))) d
 
-  pub pending-short : n ≤ 256 → Put s at (answered (take (n - 0) (drop 0 line))) after end → Put s at (answered p) after end
-  pending-short l d = let z : n - 0 ≡ n = omega arith in rw (held .short l) (rw z at d)
-
--- nothing is pending
-held-none : (line : List ℕ) (n : ℕ) (p : List ℕ) → Held line n p → n ≡ 0 → p ≡ []
-held-none line n p held z = held .short (omega arith) ∙ rw z
+  pub pending-short : length line ≡ 256 → n ≤ 256 → Put s at (answered (take (n - 0) (drop 0 line))) after end → Put s at (answered p) after end
+  pending-short size l d = let z : n - 0 ≡ n = omega arith in rw (held .short (omega (arith, size))) (rw z at d)
 
 pub line-begun : (line : List ℕ) (n : ℕ) (part s : List ℕ) (at : ℕ) {after : List ℕ} {end : ℕ} (p : List ℕ) → Held line n p → n ≡ 0
     → Put s at (answered part) after end → Put s at (answered (p ++ part)) after end
 line-begun line n part s at p held z d = rw (held-none line n p held z) d
 
 pub finish-none : (line : List ℕ) (n : ℕ) (p : List ℕ) → Held line n p → n ≡ 0 → [] ≡ finished p
-unfolding finished
+unfolding last flatten
 finish-none line n p held z = rw (held-none line n p held z)
 
-pub finish-line : (line : List ℕ) (n : ℕ) (s : List ℕ) {after : List ℕ} {end : ℕ} (p : List ℕ) → length line ≡ 256 → Held line n p → (n ≡ 0 → ⊥)
+pub finish-line : (line : List ℕ) (n : ℕ) (s : List ℕ) {after : List ℕ} {end : ℕ} (p : List ℕ) → Held line n p → (n ≡ 0 → ⊥)
     → Put s 0 (answered p) after end → take end after ≡ finished p
-unfolding finished
-finish-line line n s [] size held z d =
-    absurd
-    (by-test (ltb 256 n)
-    (λ t. omega (arith, held .long (ltb-true 256 n t)))
-    (λ f. z (sym (held-length line n [] size held (ltb-false 256 n f)))))
-finish-line line n s (b ∷ p) size held z d = d .front
+unfolding last flatten
+finish-line line n s [] held z d = absurd (z (held-some line n held))
+finish-line line n s (b ∷ p) held z d = rw (append-nil (answered (b ∷ p))) (d .front)
 
 -- ---- a piece of the input
 
@@ -126,7 +85,7 @@ pub record Feeding (line₀ : List ℕ) (n : ℕ) (piece out₀ line out : List 
 module _ (line₀ : List ℕ) (n : ℕ) (piece out₀ : List ℕ) where
   pub feeding-begin : {end : ℕ} → length line₀ ≡ 256 → n ≤ 257 → end ≡ 0 + indexOf lineFeed (slice 0 (length piece) piece) → end ≤ length piece
       → Feeding line₀ n piece out₀ line₀ out₀ n 0 0 end
-  unfolding fed
+  unfolding cut flatten
   feeding-begin l m e w =
       record {
         size = l;
@@ -145,10 +104,10 @@ module _ (line₀ : List ℕ) (n : ℕ) (piece out₀ : List ℕ) where
     index-is = rw take-length at (feeding .found)
 
     -- the piece up to the next line feed
-    fed-up : (p : List ℕ) → end < length piece
-        → fed p (take (end + 1) piece)
-        ≡ record { pending = []; printed = fed p (take at piece) .printed ++ answered (fed p (take at piece) .pending ++ take (end - at) (drop at piece)) }
-    fed-up p l =
+    cut-up : (p : List ℕ) → end < length piece
+        → cut p (take (end + 1) piece)
+        ≡ behind (cut p (take at piece) .whole) (record { whole = (cut p (take at piece) .pending ++ take (end - at) (drop at piece)) ∷ []; pending = [] })
+    cut-up p l =
         let e = index-is in
         let d = length-drop at piece in
         let f : end + 1 ≡ at + (indexOf lineFeed (drop at piece) + 1) = omega arith in
@@ -157,21 +116,28 @@ module _ (line₀ : List ℕ) (n : ℕ) (piece out₀ : List ℕ) where
           f,
           take-add at (indexOf lineFeed (drop at piece) + 1) piece,
           pieces-do-not-matter p (take at piece) (take (indexOf lineFeed (drop at piece) + 1) (drop at piece)),
-          fed-line (fed p (take at piece) .pending) (drop at piece) (omega arith),
+          cut-line (cut p (take at piece) .pending) (drop at piece) (omega arith),
           g,
         )
 
+    fed-up : (p : List ℕ) → end < length piece
+        → fed p (take (end + 1) piece) ≡ fed p (take at piece) ++ answered (cut p (take at piece) .pending ++ take (end - at) (drop at piece))
+    unfolding flatten
+    fed-up p l =
+        let line = cut p (take at piece) .pending ++ take (end - at) (drop at piece) in
+        rw (cut-up p l, answered-join (cut p (take at piece) .whole) (line ∷ []), append-nil (answered line))
+
     -- the rest of the piece, without a line feed
-    fed-over : (p : List ℕ) → length piece ≤ end
-        → fed p piece ≡ record { pending = fed p (take at piece) .pending ++ take (end - at) (drop at piece); printed = fed p (take at piece) .printed }
-    fed-over p l =
+    cut-over : (p : List ℕ) → length piece ≤ end
+        → cut p piece ≡ record { whole = cut p (take at piece) .whole; pending = cut p (take at piece) .pending ++ take (end - at) (drop at piece) }
+    cut-over p l =
         let e = index-is in
         let d = length-drop at piece in
         let w = feeding .within in
         let m : length (drop at piece) ≤ end - at = omega arith in
         rw (take-all (end - at) (drop at piece) m)
-        (ap (fed p) (sym (take-append-drop at piece)) ∙ pieces-do-not-matter p (take at piece) (drop at piece)
-        ∙ rw (fed-rest (fed p (take at piece) .pending) (drop at piece) (omega arith), append-nil (fed p (take at piece) .printed)))
+        (ap (cut p) (sym (take-append-drop at piece)) ∙ pieces-do-not-matter p (take at piece) (drop at piece)
+        ∙ rw (cut-rest (cut p (take at piece) .pending) (drop at piece) (omega arith), append-nil (cut p (take at piece) .whole)))
 
     pub feeding-line : {line′ out′ : List ℕ} {r next : ℕ} → end < length piece
         → length line′ ≡ length line → length out′ ≡ length out → r ≤ written + 11
@@ -189,9 +155,9 @@ module _ (line₀ : List ℕ) (n : ℕ) (piece out₀ : List ℕ) where
           found = found;
           follows =
               record {
-                pending = λ p h. rw (fed-up p l) (held-nothing line′);
+                pending = λ p h. rw (cut-up p l) (held-nothing line′);
                 printed = λ p h. rw (fed-up p l, ← feeding .follows .printed p h)
-                    (answer (fed p (take at piece) .pending) (feeding .follows .pending p h) .front);
+                    (answer (cut p (take at piece) .pending) (feeding .follows .pending p h) .front);
               };
         }
 
@@ -200,6 +166,6 @@ module _ (line₀ : List ℕ) (n : ℕ) (piece out₀ : List ℕ) where
         → Follows line₀ n piece line′ m (take written out)
     feeding-end l longer =
         record {
-          pending = λ p h. rw (fed-over p l) (longer (fed p (take at piece) .pending) (feeding .follows .pending p h));
-          printed = λ p h. rw (fed-over p l) (feeding .follows .printed p h);
+          pending = λ p h. rw (cut-over p l) (longer (cut p (take at piece) .pending) (feeding .follows .pending p h));
+          printed = λ p h. rw (cut-over p l) (feeding .follows .printed p h);
         }

@@ -1,21 +1,11 @@
 // What is printed, put into the output one text behind the other.
-use bytes::copy;
+use lines::LINE_FEED;
+use lines::put;
 use password_lines::answer;
 ghost use Prim.Native.Nat.{_+_, _≤_};
 ghost use lib.ListN.{length};
-ghost use Rattle.otp_lines.specs.Stream.{answered, Put};
-
-pub(crate) const LINE_FEED: u8 = 0x0a;
-
-// Puts text at at, and answers where it ends.
-pub(crate) fn put(out: &mut [u8], at: usize, text: &[u8]) -> usize
-    requires { ⌜ at + length (now text) ≤ length (now out) ⌝ }
-    ensures { λ r. ⌜ Put (now (out .entry)) at (now (text .entry)) (now (out .exit)) r ⌝ }
-{
-    let end = at + text.len();
-    copy(text, &mut out[at..end]);
-    end
-}
+ghost use Rattle.lines.specs.Lines.{Put};
+ghost use Rattle.otp_lines.specs.Stream.{answered};
 
 // Puts a line's answer and a line feed at at, and answers where they end.
 pub(crate) fn put_answer(out: &mut [u8], at: usize, line: &[u8]) -> usize

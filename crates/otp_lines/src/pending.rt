@@ -1,30 +1,15 @@
-// The line that no line feed has ended yet, in a buffer of 256 bytes. Of a longer one nothing is kept but that it is longer, since it is refused
-// whatever it holds.
-use crate::output::put;
+// The line that no line feed has ended yet, in a buffer of 256 bytes.
 use crate::output::put_answer;
+use lines::extend;
+use lines::put;
 ghost use mathlib.Core.Path.{_≡_};
 ghost use mathlib.Core.List.{List, _++_};
 ghost use Prim.Native.Nat.{ℕ, _+_, _≤_};
 ghost use lib.ListN.{length};
-ghost use Rattle.otp_lines.specs.Stream.{answered, Held, Put};
+ghost use Rattle.lines.specs.Lines.{Held, Put};
+ghost use Rattle.otp_lines.specs.Stream.{answered};
 
 pub(crate) const LONGEST: usize = 256;
-
-// Stands for the length of every longer line.
-const TOO_LONG: usize = 257;
-
-// Puts part behind the pending line, of n bytes, and answers how many bytes it has then.
-pub(crate) fn extend(line: &mut [u8], n: usize, part: &[u8]) -> usize
-    requires { ⌜ length (now line) ≡ 256 ⌝ }
-    requires { ⌜ n ≤ 257 ⌝ }
-    ensures { λ r. ⌜ r ≤ 257 ⌝ }
-    ensures { λ r. ⌜ ((p : List ℕ) → Held (now (line .entry)) n p → Held (now (line .exit)) r (p ++ now (part .entry))) ⌝ }
-{
-    if LONGEST < n + part.len() {
-        return TOO_LONG;
-    }
-    put(line, n, part)
-}
 
 // Puts the pending line's answer at at, and answers where it ends.
 pub(crate) fn put_pending(out: &mut [u8], at: usize, line: &[u8], n: usize) -> usize

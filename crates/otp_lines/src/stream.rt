@@ -1,14 +1,15 @@
 // The input piece by piece.
-use crate::output::LINE_FEED;
-use crate::pending::extend;
 use crate::pending::put_line;
 use crate::pending::put_pending;
+use lines::LINE_FEED;
+use lines::extend;
 use text::find;
 ghost use mathlib.Core.Path.{_≡_};
 ghost use mathlib.Core.List.{List};
 ghost use Prim.Native.Nat.{ℕ, _*_, _≤_};
 ghost use lib.ListN.{length, take};
-ghost use Rattle.otp_lines.specs.Stream.{finished, Held, Follows};
+ghost use Rattle.lines.specs.Lines.{Held};
+ghost use Rattle.otp_lines.specs.Stream.{finished, Follows};
 
 // The pending line's length, and how many bytes are to be printed.
 pub(crate) struct Fed {

@@ -61,7 +61,7 @@ same-length-2 : tie.Need-same-length-2 Inv-loop μ-loop
 same-length-2 c = search needs
 
 returns : tie.Need-returns Inv-loop μ-loop
-returns c = let l = c .before .before .before .before .before .before .loop in let w : l .written ≤ length (c .before .before .before .before .before .before .before .before .before .before .before .args .out .now) = omega (arith, l .inv .room, l .inv .start, l .inv .within, c .before .before .before .before .before .before .before .before .before .before .before .pre .1 .1) in ((c .before .before .extend .ensures .0, w), feeding-end (c .before .before .before .before .before .before .before .before .before .before .before .args .line .now) (c .before .before .before .before .before .before .before .before .before .before .before .args .n) (c .before .before .before .before .before .before .before .before .before .before .before .args .piece .now) (c .before .before .before .before .before .before .before .before .before .before .before .args .out .now) (l .line) (l .out) (l .held) (l .written) (l .at) (l .end) (l .inv) (c .before .before .before .before .before .loop-test .left) (c .before .before .extend .ensures .1))
+returns c = let l = c .before .before .before .before .before .before .loop in let w : l .written ≤ length (c .before .before .before .before .before .before .before .before .before .before .before .args .out .now) = omega (arith, l .inv .room, l .inv .start, l .inv .within, c .before .before .before .before .before .before .before .before .before .before .before .pre .1 .1) in ((omega (arith, l .inv .size, c .before .before .extend .ensures .0), w), feeding-end (c .before .before .before .before .before .before .before .before .before .before .before .args .line .now) (c .before .before .before .before .before .before .before .before .before .before .before .args .n) (c .before .before .before .before .before .before .before .before .before .before .before .args .piece .now) (c .before .before .before .before .before .before .before .before .before .before .before .args .out .now) (l .line) (l .out) (l .held) (l .written) (l .at) (l .end) (l .inv) (c .before .before .before .before .before .loop-test .left) (c .before .before .extend .ensures .1))
 
 pub feed-spec : {M : Type 1} → statement M
 feed-spec =

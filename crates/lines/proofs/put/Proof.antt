@@ -1,7 +1,7 @@
-use Rattle.otp_lines.specs.ReturnLaws.{text-put}
+use Rattle.lines.specs.BufferLaws.{text-put}
 use borrow.Author.Needs.{needs}
-use Rattle.otp_lines.proofs.output.put.Statement.{statement}
-use Rattle.otp_lines.proofs.output.put.Tie as tie
+use Rattle.lines.proofs.put.Statement.{statement}
+use Rattle.lines.proofs.put.Tie as tie
 
 add-end : tie.Need-add-end
 add-end c = search needs
