@@ -1,4 +1,4 @@
-# make          prove and build everything, then show the hash, the cipher and the line program at work
+# make          prove and build everything, then show the hash, the cipher, the line program and a short day at the desk
 # make test     all tests; the last line is 'N passed, M failed'
 # make bench    the times beside other libraries; writes docs/BENCHMARKS.md
 # make install [PREFIX=/usr/local] [DESTDIR=]   the C library: archive, header, pkg-config file; make uninstall removes them
@@ -23,6 +23,9 @@ show:
 	@echo
 	@echo 'Lines key,T,C,Q,algorithm,digits (crates/otp_lines), each behind its password or the refusal 9005:'
 	@printf '%s\n' $(lines) | target/bin/otp_lines | paste -d ' ' - <(printf '%s\n' $(lines))
+	@echo
+	@echo 'A short day at the desk (examples/day): lines for crates/desk_lines, each with its answer:'
+	@examples/day
 
 test:
 	@tests/run

@@ -6,7 +6,7 @@ use mathlib.Core.Option.{Option, none, some}
 use lib.Dec.{eqb, leb, ltb}
 use lib.ListN.{length, getD, replicate}
 use Rattle.words.specs.Lists.{sameBytes}
-use Rattle.text.specs.Text.{comma, decimalOf, hexOf, fieldsOf}
+use Rattle.text.specs.Text.{hexDigit, comma, decimalOf, hexOf, fieldsOf}
 use Rattle.window.specs.PasswordAt.{PasswordRule}
 use Rattle.token.specs.declared.answers.Refusal.{Refusal}
 use Rattle.token.specs.declared.answers.Answer.{Answer}
@@ -138,10 +138,6 @@ unfoldable pub callOf : List ℕ → Option DeskCall
 callOf line = cond (leb (length line) 4096) (fieldsCall (nameOf (fieldOf (fieldsOf line) 0)) (fieldsOf line)) none
 
 -- ---- answers
-
--- small letters
-abbrev pub hexDigit : ℕ → ℕ
-hexDigit x = cond (ltb x 10) (x + 0x30) (x + 0x57)
 
 -- four digits
 unfoldable pub codeText : ℕ → List ℕ

@@ -1,6 +1,7 @@
 // The text of an answer.
 use crate::Printed;
 use bytes::copy;
+use text::hex_digit;
 use token::Answer;
 use token::Content;
 use token::number_of;
@@ -12,24 +13,13 @@ ghost use Prim.Native.Nat.{_+_, _≤_, _<_};
 ghost use lib.ListN.{length, take, drop};
 ghost use Rattle.text.specs.Text.{comma};
 ghost use Rattle.token.specs.Codes.{signedOf, valuesOf};
-ghost use Rattle.call_lines.specs.Line.{hexDigit, codeText, decimalText, signedText, valuesText, answerText, printedOf};
+ghost use Rattle.call_lines.specs.Line.{codeText, decimalText, signedText, valuesText, answerText, printedOf};
 ghost use Rattle.call_lines.specs.PrintingLaws.{Puts};
 
 // The digits of a number: the bytes from start on.
 pub struct Digits {
     pub start: usize,
     pub bytes: [u8; 20],
-}
-
-// A digit's small letter or figure.
-fn hex_digit(x: u16) -> u8
-    requires { ⌜ x < 16 ⌝ }
-    ensures { λ r. ⌜ r ≡ hexDigit x ⌝ }
-{
-    if x < 10 {
-        return x as u8 + 0x30;
-    }
-    x as u8 + 0x57
 }
 
 // The code in four hexadecimal digits.

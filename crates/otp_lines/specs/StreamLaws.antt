@@ -1,7 +1,7 @@
 -- What is printed at the ends of lines and of the input, and that it never changes with how the input is cut into pieces.
 use Prim.Native.Nat.{ℕ}
 use mathlib.Core.Path.{_≡_, refl}
-use mathlib.Core.List.{List, [], _∷_, _++_, map, flatten, append-assoc}
+use mathlib.Core.List.{List, [], _∷_, _++_, flatten, append-assoc}
 use Rattle.text.specs.Text.{fieldsOf}
 use Rattle.password_lines.specs.Line.{lineAnswer, refusal}
 use Rattle.lines.specs.Lines.{lineFeed, linesOf, cut, last, Held}

@@ -10,6 +10,7 @@ pub use reading::RowRead;
 pub use reading::find_empty;
 pub use reading::find_row;
 pub use reading::read_row;
+pub use storing::clear;
 pub use storing::store_row;
 pub use storing::wipe_key;
 pub use storing::write_row;

@@ -55,7 +55,8 @@ pub fn store_row(table: &mut [u8], at: usize, row: Row)
     store_readings(table, at, row);
 }
 
-fn clear(part: &mut [u8])
+// Sets all of a part of the table to zeros.
+pub fn clear(part: &mut [u8])
     ensures { λ _. ⌜ now (part .exit) ≡ replicate (length (now (part .entry))) 0 ⌝ }
 {
     let mut i = 0;

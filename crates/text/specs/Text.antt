@@ -21,6 +21,10 @@ digitValue b =
     (cond (leb 0x61 b && leb b 0x66) (b - 0x57)
     16))
 
+-- the digit of a value below 16, with small letters
+abbrev pub hexDigit : ℕ → ℕ
+hexDigit x = cond (ltb x 10) (x + 0x30) (x + 0x57)
+
 -- ---- decimal numbers
 
 -- the number whose digits are those of v and then s

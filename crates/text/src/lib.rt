@@ -5,6 +5,7 @@ mod hexadecimal;
 mod numbers;
 mod scan;
 
+pub use digit::hex_digit;
 pub use fields::Field;
 pub use fields::Split;
 pub use fields::field_at;

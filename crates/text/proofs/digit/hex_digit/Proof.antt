@@ -1,7 +1,7 @@
 use borrow.Author.Tests.{lt-ltb, le-ltb}
 use borrow.Author.Needs.{needs}
-use Rattle.call_lines.proofs.printing.hex_digit.Statement.{statement}
-use Rattle.call_lines.proofs.printing.hex_digit.Tie as tie
+use Rattle.text.proofs.digit.hex_digit.Statement.{statement}
+use Rattle.text.proofs.digit.hex_digit.Tie as tie
 
 cast-result : tie.Need-cast-result
 cast-result c = search needs
