@@ -2,7 +2,7 @@ use Prim.Native.Nat.{_-_}
 use lib.ListN.{length, length-set}
 use native.Mathlib.Omega.{arith}
 use borrow.Author.Needs.{needs}
-use Rattle.desk_lines.specs.ReturnLaws.{Hexed, hexed-none, hexed-more, hexed-all}
+use Rattle.desk_lines.specs.RowsLaws.{Hexed, hexed-none, hexed-more, hexed-all}
 use Rattle.desk_lines.proofs.rows.put_hex.Statement.{statement}
 use Rattle.desk_lines.proofs.rows.put_hex.Tie as tie
 

@@ -1,7 +1,7 @@
 use Prim.Native.Nat.{_-_}
 use native.Mathlib.Omega.{arith}
 use borrow.Author.Needs.{needs}
-use Rattle.desk_lines.specs.ReturnLaws.{Rowed, rowed-none, row-room, row-within, rowed-more, rowed-all}
+use Rattle.desk_lines.specs.RowsLaws.{Rowed, rowed-none, row-room, row-within, rowed-more, rowed-all}
 use Rattle.desk_lines.proofs.rows.put_rows.Statement.{statement}
 use Rattle.desk_lines.proofs.rows.put_rows.Tie as tie
 

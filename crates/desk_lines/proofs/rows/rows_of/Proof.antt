@@ -1,5 +1,5 @@
 use native.Mathlib.Omega.{arith}
-use Rattle.desk_lines.specs.ReturnLaws.{rows-short, rows-other, rows-unread, rows-many, rows-right}
+use Rattle.desk_lines.specs.RowsLaws.{rows-short, rows-other, rows-unread, rows-many, rows-right}
 use borrow.Author.Needs.{needs}
 use Rattle.desk_lines.proofs.rows.rows_of.Statement.{statement}
 use Rattle.desk_lines.proofs.rows.rows_of.Tie as tie
