@@ -5,10 +5,14 @@ use mathlib.Core.Bool.{Bool, true, false, not, _&&_}
 use mathlib.Core.List.{List, [], _∷_, _++_}
 use native.Mathlib.Omega.{arith}
 use borrow.Author.Tests.{not-true, not-false}
+use lib.Dec.{eqb}
 use lib.ListN.{length, getD, take, drop, length-drop}
 use lib.Seq.{length-take-le, take-add, drop-at, drop-drop}
+use Rattle.words.specs.Bytes.{beAt, leAt, swapBytes}
+use Rattle.words.specs.BytesLaws.{AreBytes}
 use Rattle.words.specs.Lists.{allZero}
 use Rattle.words.specs.ListsLaws.{and-true, and-assoc}
+use Rattle.words.specs.SwapLaws.{lying-same, zero-number}
 use Rattle.row.specs.declared.Row.{Row}
 use Rattle.row.specs.declared.reading.RowRead.the-variants.{Good, Damaged}
 use Rattle.row.specs.Row.{rowAt, keyAt, allOf, numbersOk, zerosOk, wellFormed}
@@ -63,13 +67,14 @@ behind-key s at n h room =
     let rest = drop-at (take n (drop (at + 16) s)) (take (32 - n) (drop n (drop (at + 16) s))) n l in
     rw (m, whole, rest, drop-drop n (at + 16) s)
 
-pub zeros-read : (s : List ℕ) (at : ℕ) {a b c : Bool} → at + 96 ≤ length s → getD s (at + 7) 0 ≤ 32
-    → a ≡ allZero (take (at + 48 - (at + 16 + getD s (at + 7) 0)) (drop (at + 16 + getD s (at + 7) 0) s))
-    → b ≡ allZero (take (at + 60 - (at + 58)) (drop (at + 58) s))
-    → c ≡ allZero (take (at + 96 - (at + 88)) (drop (at + 88) s))
-    → (a && b) && c ≡ zerosOk s at
-unfolding zerosOk
-zeros-read s at room h p q r =
-    let two : at + 60 - (at + 58) ≡ 2 = omega arith in
-    let eight : at + 96 - (at + 88) ≡ 8 = omega arith in
+pub zeros-read : (s : List ℕ) (at : ℕ) {behind : Bool} {gap spare : ℕ} → AreBytes s → at + 96 ≤ length s → getD s (at + 7) 0 ≤ 32
+    → behind ≡ allZero (take (at + 48 - (at + 16 + getD s (at + 7) 0)) (drop (at + 16 + getD s (at + 7) 0) s))
+    → gap ≡ beAt 2 s (at + 58)
+    → spare ≡ leAt 8 s (at + 88)
+    → (behind && eqb gap 0) && eqb spare 0 ≡ zerosOk s at
+unfolding zerosOk swapBytes
+zeros-read s at bytes room h p q r =
+    let two : eqb (beAt 2 s (at + 58)) 0 ≡ allZero (take 2 (drop (at + 58) s)) =
+    lying-same 2 s (at + 58) 0 bytes (omega arith) ∙ zero-number 2 s (at + 58) (omega arith) in
+    let eight = zero-number 8 s (at + 88) (omega arith) in
     rw (p, q, r, behind-key s at (getD s (at + 7) 0) h (omega arith), two, eight)

@@ -20,37 +20,59 @@ use crate::layout::STATE;
 use crate::layout::USED;
 use crate::layout::WAIT;
 use bytes::copy;
+use words::bytes::be_at;
 use words::bytes::put_be;
 ghost use mathlib.Core.Path.{_≡_};
-ghost use Prim.Native.Nat.{_+_, _≤_};
-ghost use lib.ListN.{length, replicate};
-ghost use Rattle.words.specs.Bytes.{put};
+ghost use Prim.Native.Nat.{_+_, _≤_, _<_};
+ghost use lib.ListN.{length, set, replicate};
+ghost use Rattle.words.specs.Bytes.{put, putBe};
 ghost use Rattle.row.specs.Row.{beforeKey, stepBytes, timeBytes};
 ghost use Rattle.row.specs.Table.{stepsStored, readingsStored, storeRow, wipeKey, zeroFilled, writeRow};
+
+// Stores a byte, unless it is there.
+fn renew_byte(table: &mut [u8], at: usize, x: u8)
+    requires { ⌜ at < length (now table) ⌝ }
+    ensures { λ _. ⌜ now (table .exit) ≡ set (now (table .entry)) at x ⌝ }
+{
+    if table[at] != x {
+        table[at] = x;
+    }
+}
+
+// Stores the k low bytes of x, unless they are there: a call that changes no number writes nothing.
+fn renew(table: &mut [u8], at: usize, k: usize, x: u64)
+    requires { ⌜ k ≤ 8 ⌝ }
+    requires { ⌜ at + k ≤ length (now table) ⌝ }
+    ensures { λ _. ⌜ now (table .exit) ≡ putBe k (now (table .entry)) at x ⌝ }
+{
+    if be_at(table, at, k) != x {
+        put_be(table, at, k, x);
+    }
+}
 
 fn store_steps(table: &mut [u8], at: usize, row: Row)
     requires { ⌜ at + 96 ≤ length (now table) ⌝ }
     ensures { λ _. ⌜ now (table .exit) ≡ stepsStored (now (table .entry)) at row ⌝ }
 {
-    put_be(table, at + NEXT, 8, row.track.next.0);
-    put_be(table, at + OFFSET, 2, row.track.offset.0 as u64);
+    renew(table, at + NEXT, 8, row.track.next.0);
+    renew(table, at + OFFSET, 2, row.track.offset.0 as u64);
 }
 
 fn store_readings(table: &mut [u8], at: usize, row: Row)
     requires { ⌜ at + 96 ≤ length (now table) ⌝ }
     ensures { λ _. ⌜ now (table .exit) ≡ readingsStored (now (table .entry)) at row ⌝ }
 {
-    put_be(table, at + LOCKED, 8, row.locked.0);
-    put_be(table, at + USED, 8, row.used.0);
+    renew(table, at + LOCKED, 8, row.locked.0);
+    renew(table, at + USED, 8, row.used.0);
 }
 
-// Stores the numbers that calls change.
+// Stores the numbers that calls change, where they did.
 pub fn store_row(table: &mut [u8], at: usize, row: Row)
     requires { ⌜ at + 96 ≤ length (now table) ⌝ }
     ensures { λ _. ⌜ now (table .exit) ≡ storeRow (now (table .entry)) at row ⌝ }
 {
-    table[at + STATE] = row.state;
-    table[at + ERRORS] = row.errors;
+    renew_byte(table, at + STATE, row.state);
+    renew_byte(table, at + ERRORS, row.errors);
     store_steps(table, at, row);
     store_readings(table, at, row);
 }
