@@ -14,10 +14,8 @@ use Rattle.words.specs.Lists.{allZero}
 use Rattle.words.specs.ListsLaws.{and-true, and-assoc}
 use Rattle.words.specs.SwapLaws.{lying-same, zero-number}
 use Rattle.row.specs.declared.Row.{Row}
-use Rattle.row.specs.declared.reading.RowRead.the-variants.{Good, Damaged}
 use Rattle.row.specs.Row.{rowAt, keyAt, allOf, numbersOk, zerosOk, wellFormed}
 use Rattle.row.specs.RowLaws.{length-in-range}
-use Rattle.row.specs.Table.{readRow}
 
 -- the tests as they are made, one after the other
 abbrev inOrder : Bool → List Bool → Bool
@@ -37,9 +35,9 @@ all-made [] = refl
 all-made (b ∷ bs) = in-order b bs
 
 module _ (s : List ℕ) (at : ℕ) {r : Row} {b : Bool} (row : r ≡ rowAt s at) (test : b ≡ numbersOk r) where
-  pub read-out-of-range : not b ≡ true → Damaged ≡ readRow s at
-  unfolding readRow wellFormed
-  read-out-of-range t = let e : numbersOk (rowAt s at) ≡ false = rw (← row, ← test) (not-true b t) in rw e
+  pub out-of-range : not b ≡ true → false ≡ wellFormed s at
+  unfolding wellFormed
+  out-of-range t = let e : numbersOk (rowAt s at) ≡ false = rw (← row, ← test) (not-true b t) in rw e
 
   in-range : not b ≡ false → numbersOk (rowAt s at) ≡ true
   in-range t = rw (← row, ← test) (not-false b t)
@@ -48,13 +46,9 @@ module _ (s : List ℕ) (at : ℕ) {r : Row} {b : Bool} (row : r ≡ rowAt s at)
   unfolding rowAt
   key-within t = length-in-range (rowAt s at) (in-range t) .1
 
-  pub read-no-zeros : {z : Bool} → not b ≡ false → z ≡ zerosOk s at → not z ≡ true → Damaged ≡ readRow s at
-  unfolding readRow wellFormed
-  read-no-zeros {z} t e u = let f : zerosOk s at ≡ false = sym e ∙ not-true z u in rw (in-range t, f)
-
-  pub read-well-formed : {z : Bool} → not b ≡ false → z ≡ zerosOk s at → not z ≡ false → Good at r ≡ readRow s at
-  unfolding readRow wellFormed
-  read-well-formed {z} t e u = let f : zerosOk s at ≡ true = sym e ∙ not-false z u in rw (in-range t, f, row)
+  pub zeros-decide : {z : Bool} → not b ≡ false → z ≡ zerosOk s at → z ≡ wellFormed s at
+  unfolding wellFormed
+  zeros-decide t e = rw (in-range t) e
 
 -- the bytes behind the key
 behind-key : (s : List ℕ) (at n : ℕ) → n ≤ 32 → at + 48 ≤ length s → take (at + 48 - (at + 16 + n)) (drop (at + 16 + n) s) ≡ drop n (keyAt s at)

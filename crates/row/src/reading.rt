@@ -31,8 +31,7 @@ use words::bytes::zeros;
 ghost use mathlib.Core.Path.{_≡_};
 ghost use Prim.Native.Nat.{_+_, _≤_};
 ghost use lib.ListN.{length, getD};
-ghost use Rattle.row.specs.Row.{rowAt, zerosOk};
-ghost use Rattle.row.specs.Table.{readRow};
+ghost use Rattle.row.specs.Row.{rowAt, zerosOk, wellFormed};
 
 // The place of a row in the table.
 pub enum Place {
@@ -40,14 +39,8 @@ pub enum Place {
     Nowhere,
 }
 
-// A well-formed row's place and numbers, or that the row is not well formed.
-pub enum RowRead {
-    Good(usize, Row),
-    Damaged,
-}
-
 // The numbers of the row at a place.
-fn load_numbers(table: &[u8], at: usize) -> Row
+pub fn row_at(table: &[u8], at: usize) -> Row
     requires { ⌜ at + 96 ≤ length (now table) ⌝ }
     ensures { λ r. ⌜ r ≡ rowAt (now (table .entry)) at ⌝ }
 {
@@ -88,16 +81,12 @@ fn zeros_ok(table: &[u8], at: usize) -> bool
 }
 
 // A call goes on only with a well-formed row.
-pub fn read_row(table: &[u8], at: usize) -> RowRead
+pub fn well_formed(table: &[u8], at: usize) -> bool
     requires { ⌜ at + 96 ≤ length (now table) ⌝ }
-    ensures { λ r. ⌜ r ≡ readRow (now (table .entry)) at ⌝ }
+    ensures { λ r. ⌜ r ≡ wellFormed (now (table .entry)) at ⌝ }
 {
-    let row = load_numbers(table, at);
-    if !numbers_ok(row) {
-        return RowRead::Damaged;
+    if !numbers_ok(row_at(table, at)) {
+        return false;
     }
-    if !zeros_ok(table, at) {
-        return RowRead::Damaged;
-    }
-    RowRead::Good(at, row)
+    zeros_ok(table, at)
 }

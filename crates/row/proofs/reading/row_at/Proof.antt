@@ -1,7 +1,7 @@
 use Rattle.row.specs.Row.{rowAt}
 use borrow.Author.Needs.{needs}
-use Rattle.row.proofs.reading.load_numbers.Statement.{statement}
-use Rattle.row.proofs.reading.load_numbers.Tie as tie
+use Rattle.row.proofs.reading.row_at.Statement.{statement}
+use Rattle.row.proofs.reading.row_at.Tie as tie
 
 add-t5 : tie.Need-add-t5
 add-t5 c = search needs
@@ -103,8 +103,8 @@ returns : tie.Need-returns
 unfolding rowAt
 returns c = rw (c .before .before .before .before .before .before .before .before .before .before .be-eight .ensures, c .before .before .before .before .before .before .before .before .before .be-at .ensures .0, c .before .before .before .before .be-eight2 .ensures, c .before .before .before .be-at2 .ensures .0, c .before .before .be-eight3 .ensures, c .before .be-eight4 .ensures, c .be-eight5 .ensures)
 
-pub load-numbers-spec : {M : Type 1} → statement M
-load-numbers-spec =
+pub row-at-spec : {M : Type 1} → statement M
+row-at-spec =
     tie.close
     (tie.spec
     add-t5
