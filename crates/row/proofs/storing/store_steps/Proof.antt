@@ -3,35 +3,35 @@ use borrow.Author.Needs.{needs}
 use Rattle.row.proofs.storing.store_steps.Statement.{statement}
 use Rattle.row.proofs.storing.store_steps.Tie as tie
 
-add-renew : tie.Need-add-renew
-add-renew c = search needs
+add-renew-eight : tie.Need-add-renew-eight
+add-renew-eight c = search needs
 
-renew-requires : tie.Need-renew-requires
-renew-requires c κs = search needs
+renew-eight-requires : tie.Need-renew-eight-requires
+renew-eight-requires c κs = search needs
 
-add-renew-2 : tie.Need-add-renew-2
-add-renew-2 c = search needs
+add-renew-two : tie.Need-add-renew-two
+add-renew-two c = search needs
 
-cast-renew : tie.Need-cast-renew
-cast-renew c = search needs
+cast-renew-two : tie.Need-cast-renew-two
+cast-renew-two c = search needs
 
-renew-requires-2 : tie.Need-renew-requires-2
-renew-requires-2 c κs = search needs
+renew-two-requires : tie.Need-renew-two-requires
+renew-two-requires c κs = search needs
 
 same-length : tie.Need-same-length
 same-length c = search needs
 
 returns : tie.Need-returns
-returns c = c .before .before .renew2 .ensures ∙ rw (c .before .before .before .before .before .before .before .renew .ensures)
+returns c = c .before .before .renew-two .ensures ∙ rw (c .before .before .before .before .before .before .before .renew-eight .ensures)
 
 pub store-steps-spec : {M : Type 1} → statement M
 store-steps-spec =
     tie.close
     (tie.spec
-    add-renew
-    renew-requires
-    add-renew-2
-    cast-renew
-    renew-requires-2
+    add-renew-eight
+    renew-eight-requires
+    add-renew-two
+    cast-renew-two
+    renew-two-requires
     same-length
     returns)
