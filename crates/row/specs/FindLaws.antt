@@ -1,7 +1,7 @@
 -- Laws of the search for a row: one for both things that a row is looked for by.
 use Prim.Native.Nat.{ℕ, zero, suc, _+_, _-_, _/_, _^_, _≤_, _<_}
 use mathlib.Core.Path.{_≡_, refl, sym, ap, _∙_}
-use mathlib.Core.Bool.{Bool, true, false, not, _&&_, _||_, cond}
+use mathlib.Core.Bool.{Bool, true, false, not, _&&_, _||_}
 use mathlib.Core.List.{List}
 use native.Mathlib.Nat.{add-assoc}
 use native.Mathlib.Omega.{arith}
@@ -12,27 +12,27 @@ use Rattle.words.specs.Bytes.{leAt, swapBytes}
 use Rattle.words.specs.BytesLaws.{AreBytes}
 use Rattle.words.specs.ListsLaws.{and-false}
 use Rattle.words.specs.Tables.{and-left, and-right}
-use Rattle.words.specs.SwapLaws.{lying-same}
+use Rattle.words.specs.SwapLaws.{swapped-same}
 use Rattle.row.specs.declared.reading.Place.{Place}
 use Rattle.row.specs.declared.reading.Place.the-variants.{At, Nowhere}
 use Rattle.row.specs.declared.finding.Wanted.{Wanted}
 use Rattle.row.specs.declared.finding.Wanted.the-variants.{Serial, Empty}
 use Rattle.row.specs.Row.{rowBytes}
-use Rattle.row.specs.Table.{isEmpty, hasSerial, firstRow, findRow, findEmpty}
+use Rattle.row.specs.Table.{isEmpty, hasSerial, firstRow, findRow}
 
 -- whether the row at a place has the serial whose bytes, in the other order, are the wanted number
-abbrev pub lies : List ℕ → ℕ → ℕ → Bool
-lies s wanted at = eqb (leAt 8 s (at + 8)) wanted
+abbrev pub serialIs : List ℕ → ℕ → ℕ → Bool
+serialIs s wanted at = eqb (leAt 8 s (at + 8)) wanted
 
 -- whether the row at a place is the wanted one
 abbrev pub passes : List ℕ → Wanted → ℕ → Bool
-passes s (Serial wanted) at = not (isEmpty s at) && lies s wanted at
+passes s (Serial wanted) at = not (isEmpty s at) && serialIs s wanted at
 passes s Empty at = isEmpty s at
 
 -- whether four rows are left, and none of them has the serial
 unfoldable pub fourLack : List ℕ → ℕ → ℕ → ℕ → Bool
 fourLack s wanted at left =
-    leb 4 left && not (((lies s wanted at || lies s wanted (at + 96)) || lies s wanted (at + 192)) || lies s wanted (at + 288))
+    leb 4 left && not (((serialIs s wanted at || serialIs s wanted (at + 96)) || serialIs s wanted (at + 192)) || serialIs s wanted (at + 288))
 
 -- ---- the loop: the rows that are left give what all give
 
@@ -67,13 +67,13 @@ module _ (s : List ℕ) (wanted at left : ℕ) where
   unfolding fourLack
   few-left h = rw (lt-leb 4 left h)
 
-  pub four-left : {a b c d : Bool} → 4 ≤ left → a ≡ lies s wanted at → b ≡ lies s wanted (at + 96) → c ≡ lies s wanted (at + 192) → d ≡ lies s wanted (at + 288)
+  pub four-left : {a b c d : Bool} → 4 ≤ left → a ≡ serialIs s wanted at → b ≡ serialIs s wanted (at + 96) → c ≡ serialIs s wanted (at + 192) → d ≡ serialIs s wanted (at + 288)
       → not (((a || b) || c) || d) ≡ fourLack s wanted at left
   unfolding fourLack
   four-left h p q r t = rw (le-leb 4 left h, p, q, r, t)
 
 -- a row without the serial does not pass
-lacks : (s : List ℕ) (wanted at : ℕ) → lies s wanted at ≡ false → passes s (Serial wanted) at ≡ false
+lacks : (s : List ℕ) (wanted at : ℕ) → serialIs s wanted at ≡ false → passes s (Serial wanted) at ≡ false
 lacks s wanted at t = rw t (and-false (not (isEmpty s at)))
 
 pub enough-left : (s : List ℕ) (wanted at left : ℕ) → fourLack s wanted at left ≡ true → 4 ≤ left
@@ -89,10 +89,10 @@ pub four-passed : (s : List ℕ) (wanted at left : ℕ) → fourLack s wanted at
     → firstRow (passes s (Serial wanted)) (left - 4) (at + 384) ≡ firstRow (passes s (Serial wanted)) left at
 unfolding fourLack
 four-passed s wanted at left t =
-    let a = lies s wanted at in
-    let b = lies s wanted (at + 96) in
-    let c = lies s wanted (at + 192) in
-    let d = lies s wanted (at + 288) in
+    let a = serialIs s wanted at in
+    let b = serialIs s wanted (at + 96) in
+    let c = serialIs s wanted (at + 192) in
+    let d = serialIs s wanted (at + 288) in
     let none : ((a || b) || c) || d ≡ false = not-true (((a || b) || c) || d) (and-right (leb 4 left) (not (((a || b) || c) || d)) t) in
     let three : (a || b) || c ≡ false = or-left ((a || b) || c) d none in
     let two : a || b ≡ false = or-left (a || b) c three in
@@ -113,10 +113,10 @@ first-same test other e zero at = refl
 first-same test other e (suc count) at = rw (e at, first-same test other e count (at + rowBytes))
 
 -- a serial is found by its bytes in the other order
-pub found-lying : (s : List ℕ) (serial : ℕ) {wanted : ℕ} {r : Place} → AreBytes s → serial < 2 ^ 64 → wanted ≡ swapBytes 8 serial
+pub found-swapped : (s : List ℕ) (serial : ℕ) {wanted : ℕ} {r : Place} → AreBytes s → serial < 2 ^ 64 → wanted ≡ swapBytes 8 serial
     → r ≡ firstRow (passes s (Serial wanted)) (length s / rowBytes) 0 → r ≡ findRow s serial
 unfolding findRow hasSerial
-found-lying s serial bytes l w e =
+found-swapped s serial bytes l w e =
     e
     ∙ rw w (first-same (passes s (Serial (swapBytes 8 serial))) (hasSerial s serial)
-    (λ at. ap (λ (b : Bool). not (isEmpty s at) && b) (sym (lying-same 8 s (at + 8) serial bytes l))) (length s / rowBytes) 0)
+    (λ at. ap (λ (b : Bool). not (isEmpty s at) && b) (sym (swapped-same 8 s (at + 8) serial bytes l))) (length s / rowBytes) 0)

@@ -12,7 +12,7 @@ use Rattle.words.specs.Bytes.{beAt, leAt, swapBytes}
 use Rattle.words.specs.BytesLaws.{AreBytes}
 use Rattle.words.specs.Lists.{allZero}
 use Rattle.words.specs.ListsLaws.{and-true, and-assoc}
-use Rattle.words.specs.SwapLaws.{lying-same, zero-number}
+use Rattle.words.specs.SwapLaws.{swapped-same, zero-number}
 use Rattle.row.specs.declared.Row.{Row}
 use Rattle.row.specs.Row.{rowAt, keyAt, allOf, numbersOk, zerosOk, wellFormed}
 use Rattle.row.specs.RowLaws.{length-in-range}
@@ -69,6 +69,6 @@ pub zeros-read : (s : List ℕ) (at : ℕ) {behind : Bool} {gap spare : ℕ} →
 unfolding zerosOk swapBytes
 zeros-read s at bytes room h p q r =
     let two : eqb (beAt 2 s (at + 58)) 0 ≡ allZero (take 2 (drop (at + 58) s)) =
-    lying-same 2 s (at + 58) 0 bytes (omega arith) ∙ zero-number 2 s (at + 58) (omega arith) in
+    swapped-same 2 s (at + 58) 0 bytes (omega arith) ∙ zero-number 2 s (at + 58) (omega arith) in
     let eight = zero-number 8 s (at + 88) (omega arith) in
     rw (p, q, r, behind-key s at (getD s (at + 7) 0) h (omega arith), two, eight)

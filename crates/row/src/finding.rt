@@ -10,18 +10,18 @@ ghost use Prim.Native.Nat.{_+_, _*_, _/_, _≤_};
 ghost use lib.ListN.{length};
 ghost use Rattle.row.specs.declared.finding.Wanted.the-variants.{Serial};
 ghost use Rattle.row.specs.Table.{firstRow, findRow, findEmpty};
-ghost use Rattle.row.specs.FindLaws.{lies, passes, fourLack};
+ghost use Rattle.row.specs.FindLaws.{serialIs, passes, fourLack};
 
-// What a row is looked for by: a serial with its bytes in the other order, so that no row's must be swapped, or that it is empty.
+// What a row is looked for by: a serial, its bytes in the other order so that a row's are compared as they stand, or that it is empty.
 enum Wanted {
     Serial(u64),
     Empty,
 }
 
-// Whether a row's serial is the wanted one, its bytes compared as they lie.
-fn lies(table: &[u8], wanted: u64, at: usize) -> bool
+// Whether a row's serial, read the lowest byte first, is the wanted number.
+fn serial_is(table: &[u8], wanted: u64, at: usize) -> bool
     requires { ⌜ at + 96 ≤ length (now table) ⌝ }
-    ensures { λ r. ⌜ r ≡ lies (now (table .entry)) wanted at ⌝ }
+    ensures { λ r. ⌜ r ≡ serialIs (now (table .entry)) wanted at ⌝ }
 {
     le_eight(table, at + SERIAL) == wanted
 }
@@ -32,7 +32,7 @@ fn passes(table: &[u8], wanted: Wanted, at: usize) -> bool
 {
     let state = table[at + STATE];
     match wanted {
-        Wanted::Serial(serial) => (state != 0) & lies(table, serial, at),
+        Wanted::Serial(serial) => (state != 0) & serial_is(table, serial, at),
         Wanted::Empty => state == 0,
     }
 }
@@ -64,10 +64,10 @@ fn four_lack(table: &[u8], wanted: u64, at: usize, left: usize) -> bool
     if left < 4 {
         return false;
     }
-    !(lies(table, wanted, at)
-        | lies(table, wanted, at + ROW_BYTES)
-        | lies(table, wanted, at + 2 * ROW_BYTES)
-        | lies(table, wanted, at + 3 * ROW_BYTES))
+    !(serial_is(table, wanted, at)
+        | serial_is(table, wanted, at + ROW_BYTES)
+        | serial_is(table, wanted, at + 2 * ROW_BYTES)
+        | serial_is(table, wanted, at + 3 * ROW_BYTES))
 }
 
 // The first row that is not empty and has the wanted serial. Rows without it are passed over by fours.

@@ -3,7 +3,7 @@ use Prim.Native.Nat.{ℕ, zero, suc, _+_, _-_, _*_, _/_, _%_, _^_, _≤_, _<_}
 use mathlib.Core.Path.{_≡_, refl, sym, ap, ap₂, _∙_}
 use mathlib.Core.Bool.{Bool, true, false, _&&_, _||_}
 use mathlib.Core.List.{List, [], _∷_, _++_, append-nil}
-use native.Mathlib.Nat.{add-suc, add-zero, add-assoc, zero-add, pow-suc, mul-assoc, mod-lt, zero-lt-suc, div-div-eq-div-mul, mul-one}
+use native.Mathlib.Nat.{add-zero, add-assoc, zero-add, pow-suc, mul-assoc, mod-lt, zero-lt-suc, div-div-eq-div-mul, mul-one}
 use native.Mathlib.Numerals.{add-one}
 use native.Mathlib.Omega.{arith}
 use borrow.Author.Tests.{ltb-false, eqb-true, eqb-false, eq-eqb, ne-eqb}
@@ -103,9 +103,9 @@ eqb-same a b c d p q =
     (λ t. t ∙ sym (eq-eqb c d (p (eqb-true a b t))))
     (λ t. t ∙ sym (ne-eqb c d (λ e. eqb-false a b t (q e))))
 
--- a number may be looked for by its bytes as they lie
-pub lying-same : (k : ℕ) (s : List ℕ) (at x : ℕ) → AreBytes s → x < 256 ^ k → eqb (beAt k s at) x ≡ eqb (leAt k s at) (swapBytes k x)
-lying-same k s at x h l =
+-- a number may be looked for by its bytes in the other order
+pub swapped-same : (k : ℕ) (s : List ℕ) (at x : ℕ) → AreBytes s → x < 256 ^ k → eqb (beAt k s at) x ≡ eqb (leAt k s at) (swapBytes k x)
+swapped-same k s at x h l =
     eqb-same (beAt k s at) x (leAt k s at) (swapBytes k x)
     (λ e. sym (swap-be k s at h) ∙ ap (swapBytes k) e)
     (λ e. sym (swap-le k s at h) ∙ ap (swapBytes k) e ∙ swap-swap k x l)

@@ -1,4 +1,4 @@
-use Rattle.row.specs.FindLaws.{found-lying}
+use Rattle.row.specs.FindLaws.{found-swapped}
 use borrow.Author.Needs.{needs}
 use Rattle.row.proofs.finding.find_row.Statement.{statement}
 use Rattle.row.proofs.finding.find_row.Tie as tie
@@ -10,7 +10,7 @@ first-with-requires : tie.Need-first-with-requires
 first-with-requires c κs = search needs
 
 returns : tie.Need-returns
-returns c = found-lying (c .before .before .before .args .table .now) (c .before .before .before .args .serial) (λ i. c .before .before .shared-slice-known .given i .fits) (c .before .before .before .fits .serial .fits) (c .before .swapped .ensures) (c .first-with .ensures)
+returns c = found-swapped (c .before .before .before .args .table .now) (c .before .before .before .args .serial) (λ i. c .before .before .shared-slice-known .given i .fits) (c .before .before .before .fits .serial .fits) (c .before .swapped .ensures) (c .first-with .ensures)
 
 pub find-row-spec : {M : Type 1} → statement M
 find-row-spec = tie.close (tie.spec swapped-requires first-with-requires returns)

@@ -11,14 +11,14 @@ shared-slice-read-state c = search needs
 enum-known-wanted : tie.Need-enum-known-wanted
 enum-known-wanted c = search needs
 
-lies-requires : tie.Need-lies-requires
-lies-requires c κs = search needs
+serial-is-requires : tie.Need-serial-is-requires
+serial-is-requires c κs = search needs
 
 enum-told : tie.Need-enum-told
 enum-told c = search needs
 
 returns : tie.Need-returns
-returns c = rw (c .before .before .wanted .given .1, c .lies .ensures)
+returns c = rw (c .before .before .wanted .given .1, c .serial-is .ensures)
 
 returns-2 : tie.Need-returns-2
 returns-2 c = rw (c .enum-told .given .1)
@@ -30,7 +30,7 @@ passes-spec =
     add-state
     shared-slice-read-state
     enum-known-wanted
-    lies-requires
+    serial-is-requires
     enum-told
     returns
     returns-2)
