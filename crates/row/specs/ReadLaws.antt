@@ -5,15 +5,17 @@ use mathlib.Core.Bool.{Bool, true, false, not, _&&_}
 use mathlib.Core.List.{List, [], _∷_, _++_}
 use native.Mathlib.Omega.{arith}
 use borrow.Author.Tests.{not-true, not-false}
+use lib.Dec.{eqb}
 use lib.ListN.{length, getD, take, drop, length-drop}
 use lib.Seq.{length-take-le, take-add, drop-at, drop-drop}
+use Rattle.words.specs.Bytes.{beAt, leAt, swapBytes}
+use Rattle.words.specs.BytesLaws.{AreBytes}
 use Rattle.words.specs.Lists.{allZero}
 use Rattle.words.specs.ListsLaws.{and-true, and-assoc}
+use Rattle.words.specs.SwapLaws.{swapped-same, zero-number}
 use Rattle.row.specs.declared.Row.{Row}
-use Rattle.row.specs.declared.reading.RowRead.the-variants.{Good, Damaged}
 use Rattle.row.specs.Row.{rowAt, keyAt, allOf, numbersOk, zerosOk, wellFormed}
 use Rattle.row.specs.RowLaws.{length-in-range}
-use Rattle.row.specs.Table.{readRow}
 
 -- the tests as they are made, one after the other
 abbrev inOrder : Bool → List Bool → Bool
@@ -33,9 +35,9 @@ all-made [] = refl
 all-made (b ∷ bs) = in-order b bs
 
 module _ (s : List ℕ) (at : ℕ) {r : Row} {b : Bool} (row : r ≡ rowAt s at) (test : b ≡ numbersOk r) where
-  pub read-out-of-range : not b ≡ true → Damaged ≡ readRow s at
-  unfolding readRow wellFormed
-  read-out-of-range t = let e : numbersOk (rowAt s at) ≡ false = rw (← row, ← test) (not-true b t) in rw e
+  pub out-of-range : not b ≡ true → false ≡ wellFormed s at
+  unfolding wellFormed
+  out-of-range t = let e : numbersOk (rowAt s at) ≡ false = rw (← row, ← test) (not-true b t) in rw e
 
   in-range : not b ≡ false → numbersOk (rowAt s at) ≡ true
   in-range t = rw (← row, ← test) (not-false b t)
@@ -44,13 +46,9 @@ module _ (s : List ℕ) (at : ℕ) {r : Row} {b : Bool} (row : r ≡ rowAt s at)
   unfolding rowAt
   key-within t = length-in-range (rowAt s at) (in-range t) .1
 
-  pub read-no-zeros : {z : Bool} → not b ≡ false → z ≡ zerosOk s at → not z ≡ true → Damaged ≡ readRow s at
-  unfolding readRow wellFormed
-  read-no-zeros {z} t e u = let f : zerosOk s at ≡ false = sym e ∙ not-true z u in rw (in-range t, f)
-
-  pub read-well-formed : {z : Bool} → not b ≡ false → z ≡ zerosOk s at → not z ≡ false → Good at r ≡ readRow s at
-  unfolding readRow wellFormed
-  read-well-formed {z} t e u = let f : zerosOk s at ≡ true = sym e ∙ not-false z u in rw (in-range t, f, row)
+  pub zeros-decide : {z : Bool} → not b ≡ false → z ≡ zerosOk s at → z ≡ wellFormed s at
+  unfolding wellFormed
+  zeros-decide t e = rw (in-range t) e
 
 -- the bytes behind the key
 behind-key : (s : List ℕ) (at n : ℕ) → n ≤ 32 → at + 48 ≤ length s → take (at + 48 - (at + 16 + n)) (drop (at + 16 + n) s) ≡ drop n (keyAt s at)
@@ -63,13 +61,14 @@ behind-key s at n h room =
     let rest = drop-at (take n (drop (at + 16) s)) (take (32 - n) (drop n (drop (at + 16) s))) n l in
     rw (m, whole, rest, drop-drop n (at + 16) s)
 
-pub zeros-read : (s : List ℕ) (at : ℕ) {a b c : Bool} → at + 96 ≤ length s → getD s (at + 7) 0 ≤ 32
-    → a ≡ allZero (take (at + 48 - (at + 16 + getD s (at + 7) 0)) (drop (at + 16 + getD s (at + 7) 0) s))
-    → b ≡ allZero (take (at + 60 - (at + 58)) (drop (at + 58) s))
-    → c ≡ allZero (take (at + 96 - (at + 88)) (drop (at + 88) s))
-    → (a && b) && c ≡ zerosOk s at
-unfolding zerosOk
-zeros-read s at room h p q r =
-    let two : at + 60 - (at + 58) ≡ 2 = omega arith in
-    let eight : at + 96 - (at + 88) ≡ 8 = omega arith in
+pub zeros-read : (s : List ℕ) (at : ℕ) {behind : Bool} {gap spare : ℕ} → AreBytes s → at + 96 ≤ length s → getD s (at + 7) 0 ≤ 32
+    → behind ≡ allZero (take (at + 48 - (at + 16 + getD s (at + 7) 0)) (drop (at + 16 + getD s (at + 7) 0) s))
+    → gap ≡ beAt 2 s (at + 58)
+    → spare ≡ leAt 8 s (at + 88)
+    → (behind && eqb gap 0) && eqb spare 0 ≡ zerosOk s at
+unfolding zerosOk swapBytes
+zeros-read s at bytes room h p q r =
+    let two : eqb (beAt 2 s (at + 58)) 0 ≡ allZero (take 2 (drop (at + 58) s)) =
+    swapped-same 2 s (at + 58) 0 bytes (omega arith) ∙ zero-number 2 s (at + 58) (omega arith) in
+    let eight = zero-number 8 s (at + 88) (omega arith) in
     rw (p, q, r, behind-key s at (getD s (at + 7) 0) h (omega arith), two, eight)

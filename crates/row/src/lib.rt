@@ -1,15 +1,16 @@
 // The row of a token and the table of rows (document 01, Part 4).
+mod finding;
 mod layout;
 mod ranges;
 mod reading;
 mod storing;
 
+pub use finding::find_empty;
+pub use finding::find_row;
 pub use ranges::numbers_ok;
 pub use reading::Place;
-pub use reading::RowRead;
-pub use reading::find_empty;
-pub use reading::find_row;
-pub use reading::read_row;
+pub use reading::row_at;
+pub use reading::well_formed;
 pub use storing::clear;
 pub use storing::store_row;
 pub use storing::wipe_key;

@@ -1,4 +1,4 @@
-// What is read of a row: its place, its numbers, and whether it is well formed (document 01, Part 4).
+// What is read of a row: its numbers, and whether it is well formed (document 01, Part 4).
 use crate::Row;
 use crate::layout::ALGORITHM;
 use crate::layout::DIGITS;
@@ -13,7 +13,6 @@ use crate::layout::LOCKED;
 use crate::layout::NEXT;
 use crate::layout::OFFSET;
 use crate::layout::PERIOD;
-use crate::layout::ROW_BYTES;
 use crate::layout::SERIAL;
 use crate::layout::SPARE;
 use crate::layout::STATE;
@@ -26,13 +25,13 @@ use window::Seconds;
 use window::Step;
 use window::Track;
 use words::bytes::be_at;
+use words::bytes::be_eight;
+use words::bytes::le_eight;
 use words::bytes::zeros;
 ghost use mathlib.Core.Path.{_≡_};
 ghost use Prim.Native.Nat.{_+_, _≤_};
 ghost use lib.ListN.{length, getD};
-ghost use Rattle.row.specs.Row.{rowAt, zerosOk};
-ghost use Rattle.row.specs.Table.{findRow, findEmpty, readRow};
-ghost use Rattle.row.specs.FindLaws.{passes, firstPassing};
+ghost use Rattle.row.specs.Row.{rowAt, zerosOk, wellFormed};
 
 // The place of a row in the table.
 pub enum Place {
@@ -40,62 +39,8 @@ pub enum Place {
     Nowhere,
 }
 
-// A well-formed row's place and numbers, or that the row is not well formed.
-pub enum RowRead {
-    Good(usize, Row),
-    Damaged,
-}
-
-// What a row is looked for by: a serial, or that it is empty.
-enum Wanted {
-    Serial(u64),
-    Empty,
-}
-
-fn passes(table: &[u8], wanted: Wanted, at: usize) -> bool
-    requires { ⌜ at + 96 ≤ length (now table) ⌝ }
-    ensures { λ r. ⌜ r ≡ passes (now (table .entry)) wanted at ⌝ }
-{
-    let state = table[at + STATE];
-    match wanted {
-        Wanted::Serial(serial) => (state != 0) & (be_at(table, at + SERIAL, 8) == serial),
-        Wanted::Empty => state == 0,
-    }
-}
-
-fn first_passing(table: &[u8], wanted: Wanted) -> Place
-    ensures { λ r. ⌜ r ≡ firstPassing (now (table .entry)) wanted ⌝ }
-{
-    let mut at = 0;
-    let mut left = table.len() / ROW_BYTES;
-    loop {
-        if left == 0 {
-            break Place::Nowhere;
-        }
-        if passes(table, wanted, at) {
-            break Place::At(at);
-        }
-        at += ROW_BYTES;
-        left -= 1;
-    }
-}
-
-// The serial's row: the first one not empty that has it.
-pub fn find_row(table: &[u8], serial: u64) -> Place
-    ensures { λ r. ⌜ r ≡ findRow (now (table .entry)) serial ⌝ }
-{
-    first_passing(table, Wanted::Serial(serial))
-}
-
-// The first empty row.
-pub fn find_empty(table: &[u8]) -> Place
-    ensures { λ r. ⌜ r ≡ findEmpty (now (table .entry)) ⌝ }
-{
-    first_passing(table, Wanted::Empty)
-}
-
 // The numbers of the row at a place.
-fn load_numbers(table: &[u8], at: usize) -> Row
+pub fn row_at(table: &[u8], at: usize) -> Row
     requires { ⌜ at + 96 ≤ length (now table) ⌝ }
     ensures { λ r. ⌜ r ≡ rowAt (now (table .entry)) at ⌝ }
 {
@@ -107,7 +52,7 @@ fn load_numbers(table: &[u8], at: usize) -> Row
     let track = Track {
         rule,
         period: table[at + PERIOD],
-        next: Step(be_at(table, at + NEXT, 8)),
+        next: Step(be_eight(table, at + NEXT)),
         offset: Offset(be_at(table, at + OFFSET, 2) as u16),
     };
     Row {
@@ -116,11 +61,11 @@ fn load_numbers(table: &[u8], at: usize) -> Row
         limit: table[at + LIMIT],
         errors: table[at + ERRORS],
         length: table[at + LENGTH],
-        serial: be_at(table, at + SERIAL, 8),
+        serial: be_eight(table, at + SERIAL),
         wait: be_at(table, at + WAIT, 4) as u32,
-        expiry: Seconds(be_at(table, at + EXPIRY, 8)),
-        locked: Seconds(be_at(table, at + LOCKED, 8)),
-        used: Seconds(be_at(table, at + USED, 8)),
+        expiry: Seconds(be_eight(table, at + EXPIRY)),
+        locked: Seconds(be_eight(table, at + LOCKED)),
+        used: Seconds(be_eight(table, at + USED)),
     }
 }
 
@@ -132,24 +77,16 @@ fn zeros_ok(table: &[u8], at: usize) -> bool
 {
     let key = at + KEY + table[at + LENGTH] as usize;
     let next = at + NEXT;
-    let gap = at + GAP;
-    let wait = at + WAIT;
-    let spare = at + SPARE;
-    let end = at + ROW_BYTES;
-    zeros(&table[key..next]) & zeros(&table[gap..wait]) & zeros(&table[spare..end])
+    zeros(&table[key..next]) & (be_at(table, at + GAP, 2) == 0) & (le_eight(table, at + SPARE) == 0)
 }
 
 // A call goes on only with a well-formed row.
-pub fn read_row(table: &[u8], at: usize) -> RowRead
+pub fn well_formed(table: &[u8], at: usize) -> bool
     requires { ⌜ at + 96 ≤ length (now table) ⌝ }
-    ensures { λ r. ⌜ r ≡ readRow (now (table .entry)) at ⌝ }
+    ensures { λ r. ⌜ r ≡ wellFormed (now (table .entry)) at ⌝ }
 {
-    let row = load_numbers(table, at);
-    if !numbers_ok(row) {
-        return RowRead::Damaged;
+    if !numbers_ok(row_at(table, at)) {
+        return false;
     }
-    if !zeros_ok(table, at) {
-        return RowRead::Damaged;
-    }
-    RowRead::Good(at, row)
+    zeros_ok(table, at)
 }

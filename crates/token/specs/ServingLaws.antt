@@ -23,6 +23,7 @@ use Rattle.token.specs.declared.answers.Content.{Content}
 use Rattle.token.specs.declared.answers.Refusal.{Refusal}
 use Rattle.token.specs.declared.answers.Answer.{Answer}
 use Rattle.token.specs.declared.serving.Served.{Served}
+use Rattle.token.specs.declared.serving.Swept.{Swept}
 use Rattle.token.specs.Calls.{allowed, checkingOf, stateRefusal}
 use Rattle.token.specs.States.{waited, moved}
 use Rattle.token.specs.StatesLaws.{Near, NearIfAccepted}
@@ -56,6 +57,12 @@ Fitting (Checking.Single size) following = following ≡ []
 Fitting (Checking.Pair size) following = 0 < length following
 Fitting Checking.Nothing following = Unit {0}
 
+-- the window that is swept
+abbrev pub windowOf : Checking → Swept
+windowOf (Checking.Single size) = Swept.Window size
+windowOf (Checking.Pair size) = Swept.Window size
+windowOf Checking.Nothing = Swept.Nothing
+
 module _ (k : Track) (clock : ℕ) (size : Size) (key challenge presented : List ℕ) where
   check-single : (following : List ℕ) → following ≡ []
       → checkOf k clock size key challenge presented following ≡ singleCheck k clock size (hasBy passwordAt (k .rule) key challenge presented)
@@ -83,26 +90,32 @@ module _ (call : Call) (r : Row) (key : List ℕ) (clock : ℕ) (challenge prese
   unfolding served serving
   served-refused t e p = rw (← wait, ← test, t, ← e) p
 
-  module _ {z : Checking} (t : b ≡ true) (told : z ≡ checkingOf call) where
-    pub served-single : {size : Size} {x : Served} → z ≡ Checking.Single size → Fitting (checkingOf call) following
+  module _ (t : b ≡ true) where
+    by-checking : (z : Checking) → z ≡ checkingOf call → {size : Size} {x : Served} → windowOf z ≡ Swept.Window size → Fitting z following
         → x ≡ timely call w clock (checkOf (w .track) clock size key challenge presented following)
         → x ≡ served passwordAt call r key clock challenge presented following
     unfolding served serving
-    served-single {size} e fit p =
-        let c = sym told ∙ e in
-        let alone : following ≡ [] = rw c at fit in
-        rw (← wait, ← test, t, c, ← check-single (w .track) clock size key challenge presented following alone) p
+    by-checking (Checking.Single of) c {size} e alone p =
+        let s : of ≡ size = cc in
+        rw (← wait, ← test, t, ← c, s, ← check-single (w .track) clock size key challenge presented following alone) p
+    by-checking (Checking.Pair of) c {size} e followed p =
+        let s : of ≡ size = cc in
+        rw (← wait, ← test, t, ← c, s, ← check-pair (w .track) clock size key challenge presented following followed) p
+    by-checking Checking.Nothing c {size} e fit p = let z : _≡_ {A = ℕ} 0 1 = cc in absurd (omega arith)
 
-    pub served-pair : {size : Size} {x : Served} → z ≡ Checking.Pair size → Fitting (checkingOf call) following
-        → x ≡ timely call w clock (checkOf (w .track) clock size key challenge presented following)
-        → x ≡ served passwordAt call r key clock challenge presented following
-    unfolding served serving
-    served-pair {size} e fit p =
-        let c = sym told ∙ e in
-        let followed : 0 < length following = rw c at fit in
-        rw (← wait, ← test, t, c, ← check-pair (w .track) clock size key challenge presented following followed) p
-
-    pub served-plain : {y : Row} → z ≡ Checking.Nothing → y ≡ moved call w
+    plain-by : (z : Checking) → z ≡ checkingOf call → {y : Row} → windowOf z ≡ Swept.Nothing → y ≡ moved call w
         → _≡_ {A = Served} (record { answer = Answer.Success call Content.Plain; row = y }) (served passwordAt call r key clock challenge presented following)
     unfolding served serving
-    served-plain e p = let c = sym told ∙ e in rw (← wait, ← test, t, c, p)
+    plain-by (Checking.Single of) c e p = let z : _≡_ {A = ℕ} 0 1 = cc in absurd (omega arith)
+    plain-by (Checking.Pair of) c e p = let z : _≡_ {A = ℕ} 0 1 = cc in absurd (omega arith)
+    plain-by Checking.Nothing c e p = rw (← wait, ← test, t, ← c, p)
+
+    module _ {z : Checking} {v : Swept} (told : z ≡ checkingOf call) (window : v ≡ windowOf z) where
+      pub served-checked : {size : Size} {x : Served} → v ≡ Swept.Window size → Fitting (checkingOf call) following
+          → x ≡ timely call w clock (checkOf (w .track) clock size key challenge presented following)
+          → x ≡ served passwordAt call r key clock challenge presented following
+      served-checked e fit p = by-checking (checkingOf call) refl (rw told at (sym window ∙ e)) fit p
+
+      pub served-plain : {y : Row} → v ≡ Swept.Nothing → y ≡ moved call w
+          → _≡_ {A = Served} (record { answer = Answer.Success call Content.Plain; row = y }) (served passwordAt call r key clock challenge presented following)
+      served-plain e p = plain-by (checkingOf call) refl (rw told at (sym window ∙ e)) p

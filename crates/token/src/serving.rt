@@ -29,7 +29,7 @@ ghost use Rattle.window.specs.TokenCheck.{checkOf};
 ghost use Rattle.token.specs.Calls.{checkingOf};
 ghost use Rattle.token.specs.Serving.{refusing, judging, timely, served, querying};
 ghost use Rattle.token.specs.StatesLaws.{NearIfAccepted};
-ghost use Rattle.token.specs.ServingLaws.{Fitting};
+ghost use Rattle.token.specs.ServingLaws.{Fitting, windowOf};
 
 pub struct Served {
     pub answer: Answer,
@@ -61,6 +61,22 @@ fn judging(call: Call, row: Row, clock: Seconds, outcome: Outcome) -> Served
         Outcome::TooFar => refusing(Refusal::TooFar, row),
         Outcome::Used => refusing(used_refusal(call), failed(call, row, clock)),
         Outcome::Wrong => refusing(wrong_refusal(call), failed(call, row, clock)),
+    }
+}
+
+// The window that a call's check sweeps, for one password or for two.
+enum Swept {
+    Window(Size),
+    Nothing,
+}
+
+fn window_of(checking: Checking) -> Swept
+    ensures { λ r. ⌜ r ≡ windowOf checking ⌝ }
+{
+    match checking {
+        Checking::Single(size) => Swept::Window(size),
+        Checking::Pair(size) => Swept::Window(size),
+        Checking::Nothing => Swept::Nothing,
     }
 }
 
@@ -105,32 +121,22 @@ pub fn serve(
     if !allowed(call, found.state) {
         return refusing(state_refusal(found.state), found);
     }
-    match checking_of(call) {
-        Checking::Single(size) => checked(
-            call,
-            found,
-            clock,
-            size,
-            key,
-            challenge,
-            presented,
-            following,
-        ),
-        Checking::Pair(size) => checked(
-            call,
-            found,
-            clock,
-            size,
-            key,
-            challenge,
-            presented,
-            following,
-        ),
-        Checking::Nothing => Served {
+    let Swept::Window(size) = window_of(checking_of(call)) else {
+        return Served {
             answer: Answer::Success(call, Content::Plain),
             row: moved(call, found),
-        },
-    }
+        };
+    };
+    checked(
+        call,
+        found,
+        clock,
+        size,
+        key,
+        challenge,
+        presented,
+        following,
+    )
 }
 
 // What a query says. It writes nothing, also where a wait has run out.

@@ -6,6 +6,7 @@ pub mod Words
 pub mod WordsLaws
 pub mod Lists
 pub mod ListsLaws
+pub mod SwapLaws
 pub mod Tables
 pub mod Codes
 pub mod Output

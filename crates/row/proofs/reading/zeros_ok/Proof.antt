@@ -21,18 +21,6 @@ add-key-3 c = search needs
 add-next : tie.Need-add-next
 add-next c = search needs
 
-add-gap : tie.Need-add-gap
-add-gap c = search needs
-
-add-wait : tie.Need-add-wait
-add-wait c = search needs
-
-add-spare : tie.Need-add-spare
-add-spare c = search needs
-
-add-end : tie.Need-add-end
-add-end c = search needs
-
 sub-zeros : tie.Need-sub-zeros
 sub-zeros c = search needs
 
@@ -45,32 +33,20 @@ part-zeros-end c = search needs
 zeros-requires : tie.Need-zeros-requires
 zeros-requires c κs = search needs
 
-sub-zeros-2 : tie.Need-sub-zeros-2
-sub-zeros-2 c = search needs
+add-be-at : tie.Need-add-be-at
+add-be-at c = search needs
 
-part-zeros-start-2 : tie.Need-part-zeros-start-2
-part-zeros-start-2 c = search needs
+be-at-requires : tie.Need-be-at-requires
+be-at-requires c κs = search needs
 
-part-zeros-end-2 : tie.Need-part-zeros-end-2
-part-zeros-end-2 c = search needs
+add-le-eight : tie.Need-add-le-eight
+add-le-eight c = search needs
 
-zeros-requires-2 : tie.Need-zeros-requires-2
-zeros-requires-2 c κs = search needs
-
-sub-zeros-3 : tie.Need-sub-zeros-3
-sub-zeros-3 c = search needs
-
-part-zeros-start-3 : tie.Need-part-zeros-start-3
-part-zeros-start-3 c = search needs
-
-part-zeros-end-3 : tie.Need-part-zeros-end-3
-part-zeros-end-3 c = search needs
-
-zeros-requires-3 : tie.Need-zeros-requires-3
-zeros-requires-3 c κs = search needs
+le-eight-requires : tie.Need-le-eight-requires
+le-eight-requires c κs = search needs
 
 returns : tie.Need-returns
-returns c = zeros-read (c .before .before .before .before .before .before .before .before .args .table .now) (c .before .before .before .before .before .before .before .before .args .at) (c .before .before .before .before .before .before .before .before .pre .0) (c .before .before .before .before .before .before .before .before .pre .1) (c .before .before .before .before .zeros .ensures) (c .before .before .zeros2 .ensures) (c .zeros3 .ensures)
+returns c = zeros-read (c .before .before .before .before .before .before .args .table .now) (c .before .before .before .before .before .before .args .at) (λ i. c .before .before .before .before .before .shared-slice-known .given i .fits) (c .before .before .before .before .before .before .pre .0) (c .before .before .before .before .before .before .pre .1) (c .before .before .zeros .ensures) (c .before .be-at .ensures .0) (c .le-eight .ensures)
 
 pub zeros-ok-spec : {M : Type 1} → statement M
 zeros-ok-spec =
@@ -82,20 +58,12 @@ zeros-ok-spec =
     cast-key
     add-key-3
     add-next
-    add-gap
-    add-wait
-    add-spare
-    add-end
     sub-zeros
     part-zeros-start
     part-zeros-end
     zeros-requires
-    sub-zeros-2
-    part-zeros-start-2
-    part-zeros-end-2
-    zeros-requires-2
-    sub-zeros-3
-    part-zeros-start-3
-    part-zeros-end-3
-    zeros-requires-3
+    add-be-at
+    be-at-requires
+    add-le-eight
+    le-eight-requires
     returns)

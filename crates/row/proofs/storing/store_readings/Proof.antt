@@ -3,25 +3,25 @@ use borrow.Author.Needs.{needs}
 use Rattle.row.proofs.storing.store_readings.Statement.{statement}
 use Rattle.row.proofs.storing.store_readings.Tie as tie
 
-add-put-be : tie.Need-add-put-be
-add-put-be c = search needs
+add-renew-eight : tie.Need-add-renew-eight
+add-renew-eight c = search needs
 
-put-be-requires : tie.Need-put-be-requires
-put-be-requires c κs = search needs
+renew-eight-requires : tie.Need-renew-eight-requires
+renew-eight-requires c κs = search needs
 
-add-put-be-2 : tie.Need-add-put-be-2
-add-put-be-2 c = search needs
+add-renew-eight-2 : tie.Need-add-renew-eight-2
+add-renew-eight-2 c = search needs
 
-put-be-requires-2 : tie.Need-put-be-requires-2
-put-be-requires-2 c κs = search needs
+renew-eight-requires-2 : tie.Need-renew-eight-requires-2
+renew-eight-requires-2 c κs = search needs
 
 same-length : tie.Need-same-length
 same-length c = search needs
 
 returns : tie.Need-returns
-returns c = c .before .before .put-be2 .ensures ∙ rw (c .before .before .before .before .before .before .put-be .ensures)
+returns c = c .before .before .renew-eight2 .ensures ∙ rw (c .before .before .before .before .before .before .renew-eight .ensures)
 
 pub store-readings-spec : {M : Type 1} → statement M
 store-readings-spec =
     tie.close
-    (tie.spec add-put-be put-be-requires add-put-be-2 put-be-requires-2 same-length returns)
+    (tie.spec add-renew-eight renew-eight-requires add-renew-eight-2 renew-eight-requires-2 same-length returns)

@@ -1,44 +1,42 @@
 use mathlib.Core.Path.{_∙_}
-use native.Mathlib.Omega.{arith}
-use lib.ListN.{length-set}
 use Rattle.row.specs.Table.{storeRow}
 use borrow.Author.Needs.{needs}
 use Rattle.row.proofs.storing.store_row.Statement.{statement}
 use Rattle.row.proofs.storing.store_row.Tie as tie
 
-add-table : tie.Need-add-table
-add-table c = search needs
+add-renew-byte : tie.Need-add-renew-byte
+add-renew-byte c = search needs
 
-slice-write-table : tie.Need-slice-write-table
-slice-write-table c = search needs
+renew-byte-requires : tie.Need-renew-byte-requires
+renew-byte-requires c κs = search needs
 
-add-table-2 : tie.Need-add-table-2
-add-table-2 c = search needs
+add-renew-byte-2 : tie.Need-add-renew-byte-2
+add-renew-byte-2 c = search needs
 
-slice-write-table-2 : tie.Need-slice-write-table-2
-slice-write-table-2 c = simp length-set (omega arith)
+renew-byte-requires-2 : tie.Need-renew-byte-requires-2
+renew-byte-requires-2 c κs = search needs
 
 store-steps-requires : tie.Need-store-steps-requires
-store-steps-requires c κs = simp length-set (omega arith)
+store-steps-requires c κs = search needs
 
 store-readings-requires : tie.Need-store-readings-requires
-store-readings-requires c κs = omega (arith, simp length-set at (c .before .before .before .store-steps .kept .0))
+store-readings-requires c κs = search needs
 
 same-length : tie.Need-same-length
-same-length c = omega (arith, simp length-set at (c .before .before .before .before .before .before .store-steps .kept .0), c .before .before .store-readings .kept .0)
+same-length c = search needs
 
 returns : tie.Need-returns
 unfolding storeRow
-returns c = c .before .before .store-readings .ensures ∙ rw (c .before .before .before .before .before .before .store-steps .ensures)
+returns c = c .before .before .store-readings .ensures ∙ rw (c .before .before .before .before .before .before .store-steps .ensures, c .before .before .before .before .before .before .before .before .before .before .renew-byte2 .ensures, c .before .before .before .before .before .before .before .before .before .before .before .before .before .before .renew-byte .ensures)
 
 pub store-row-spec : {M : Type 1} → statement M
 store-row-spec =
     tie.close
     (tie.spec
-    add-table
-    slice-write-table
-    add-table-2
-    slice-write-table-2
+    add-renew-byte
+    renew-byte-requires
+    add-renew-byte-2
+    renew-byte-requires-2
     store-steps-requires
     store-readings-requires
     same-length

@@ -3,35 +3,35 @@ use borrow.Author.Needs.{needs}
 use Rattle.row.proofs.storing.store_steps.Statement.{statement}
 use Rattle.row.proofs.storing.store_steps.Tie as tie
 
-add-put-be : tie.Need-add-put-be
-add-put-be c = search needs
+add-renew-eight : tie.Need-add-renew-eight
+add-renew-eight c = search needs
 
-put-be-requires : tie.Need-put-be-requires
-put-be-requires c κs = search needs
+renew-eight-requires : tie.Need-renew-eight-requires
+renew-eight-requires c κs = search needs
 
-add-put-be-2 : tie.Need-add-put-be-2
-add-put-be-2 c = search needs
+add-renew-two : tie.Need-add-renew-two
+add-renew-two c = search needs
 
-cast-put-be : tie.Need-cast-put-be
-cast-put-be c = search needs
+cast-renew-two : tie.Need-cast-renew-two
+cast-renew-two c = search needs
 
-put-be-requires-2 : tie.Need-put-be-requires-2
-put-be-requires-2 c κs = search needs
+renew-two-requires : tie.Need-renew-two-requires
+renew-two-requires c κs = search needs
 
 same-length : tie.Need-same-length
 same-length c = search needs
 
 returns : tie.Need-returns
-returns c = c .before .before .put-be2 .ensures ∙ rw (c .before .before .before .before .before .before .before .put-be .ensures)
+returns c = c .before .before .renew-two .ensures ∙ rw (c .before .before .before .before .before .before .before .renew-eight .ensures)
 
 pub store-steps-spec : {M : Type 1} → statement M
 store-steps-spec =
     tie.close
     (tie.spec
-    add-put-be
-    put-be-requires
-    add-put-be-2
-    cast-put-be
-    put-be-requires-2
+    add-renew-eight
+    renew-eight-requires
+    add-renew-two
+    cast-renew-two
+    renew-two-requires
     same-length
     returns)

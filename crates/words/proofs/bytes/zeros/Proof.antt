@@ -1,48 +1,35 @@
-use Prim.Native.Nat.{_≤_, _-_}
-use mathlib.Core.Path.{_≡_, sym, _∙_}
-use mathlib.Core.Bool.{_&&_}
-use lib.ListN.{length, drop}
+use native.Mathlib.Omega.{arith}
+use lib.ListN.{length}
+use Rattle.words.specs.SwapLaws.{neither-end, zero-ends}
 use borrow.Author.Needs.{needs}
-use Rattle.words.specs.Lists.{allZero}
-use Rattle.words.specs.ListsLaws.{zero-more, zero-end}
 use Rattle.words.proofs.bytes.zeros.Statement.{statement}
 use Rattle.words.proofs.bytes.zeros.Tie as tie
 
-abbrev Inv-loop : tie.InvT-loop
-Inv-loop s clear₀ i₀ clear i = (i ≤ length s) × (clear && allZero (drop i s) ≡ allZero s)
+each-zero-requires : tie.Need-each-zero-requires
+each-zero-requires c κs = search needs
 
-abbrev μ-loop : tie.MeasureT-loop
-μ-loop s clear₀ i₀ clear i = length s - i
+returns : tie.Need-returns
+returns c = search needs
 
-loop-holds : tie.Need-loop-holds Inv-loop μ-loop
-loop-holds c = search needs
+le-eight-requires : tie.Need-le-eight-requires
+le-eight-requires c κs = neither-end (length (c .before .before .args .s .now)) (c .if1 .left) .0
 
-shared-slice-read-clear : tie.Need-shared-slice-read-clear Inv-loop μ-loop
-shared-slice-read-clear c = search needs
+sub-le-eight : tie.Need-sub-le-eight
+sub-le-eight c = neither-end (length (c .before .before .before .args .s .now)) (c .before .if1 .left) .0
 
-add-i : tie.Need-add-i Inv-loop μ-loop
-add-i c = search needs
+le-eight-requires-2 : tie.Need-le-eight-requires-2
+le-eight-requires-2 c κs = let l = neither-end (length (c .before .before .before .args .s .now)) (c .before .if1 .left) in omega arith
 
-loop-less : tie.Need-loop-less Inv-loop μ-loop
-loop-less c = search needs
-
-loop-again : tie.Need-loop-again Inv-loop μ-loop
-loop-again c = let l = c .before .before .loop in
-    (search needs, sym (zero-more (c .before .before .before .args .s .now) (l .i) (l .clear) (c .before .loop-test .taken)) ∙ l .inv .1)
-
-returns : tie.Need-returns Inv-loop μ-loop
-returns c = let l = c .before .loop in
-    sym (zero-end (c .before .before .args .s .now) (l .i) (l .clear) (c .loop-test .left)) ∙ l .inv .1
+returns-2 : tie.Need-returns-2
+returns-2 c = let l = neither-end (length (c .before .before .before .before .args .s .now)) (c .before .before .if1 .left) in rw (c .before .le-eight .ensures, c .le-eight2 .ensures) (zero-ends (c .before .before .before .before .args .s .now) (l .0) (l .1))
 
 pub zeros-spec : {M : Type 1} → statement M
 zeros-spec =
     tie.close
     (tie.spec
-    Inv-loop
-    μ-loop
-    loop-holds
-    shared-slice-read-clear
-    add-i
-    loop-less
-    loop-again
-    returns)
+    each-zero-requires
+    returns
+    le-eight-requires
+    sub-le-eight
+    le-eight-requires-2
+    returns-2)

@@ -1,7 +1,6 @@
-use Rattle.row.specs.Table.{hasSerial}
 use borrow.Author.Needs.{needs}
-use Rattle.row.proofs.reading.passes.Statement.{statement}
-use Rattle.row.proofs.reading.passes.Tie as tie
+use Rattle.row.proofs.finding.passes.Statement.{statement}
+use Rattle.row.proofs.finding.passes.Tie as tie
 
 add-state : tie.Need-add-state
 add-state c = search needs
@@ -12,18 +11,14 @@ shared-slice-read-state c = search needs
 enum-known-wanted : tie.Need-enum-known-wanted
 enum-known-wanted c = search needs
 
-add-be-at : tie.Need-add-be-at
-add-be-at c = search needs
-
-be-at-requires : tie.Need-be-at-requires
-be-at-requires c κs = search needs
+serial-is-requires : tie.Need-serial-is-requires
+serial-is-requires c κs = search needs
 
 enum-told : tie.Need-enum-told
 enum-told c = search needs
 
 returns : tie.Need-returns
-unfolding hasSerial
-returns c = rw (c .before .before .wanted .given .1, c .be-at .ensures .0)
+returns c = rw (c .before .before .wanted .given .1, c .serial-is .ensures)
 
 returns-2 : tie.Need-returns-2
 returns-2 c = rw (c .enum-told .given .1)
@@ -35,8 +30,7 @@ passes-spec =
     add-state
     shared-slice-read-state
     enum-known-wanted
-    add-be-at
-    be-at-requires
+    serial-is-requires
     enum-told
     returns
     returns-2)

@@ -1,7 +1,7 @@
 use Rattle.row.specs.Row.{rowAt}
 use borrow.Author.Needs.{needs}
-use Rattle.row.proofs.reading.load_numbers.Statement.{statement}
-use Rattle.row.proofs.reading.load_numbers.Tie as tie
+use Rattle.row.proofs.reading.row_at.Statement.{statement}
+use Rattle.row.proofs.reading.row_at.Tie as tie
 
 add-t5 : tie.Need-add-t5
 add-t5 c = search needs
@@ -27,17 +27,17 @@ add-t5-2 c = search needs
 shared-slice-read-t13-2 : tie.Need-shared-slice-read-t13-2
 shared-slice-read-t13-2 c = search needs
 
+add-be-eight : tie.Need-add-be-eight
+add-be-eight c = search needs
+
+be-eight-requires : tie.Need-be-eight-requires
+be-eight-requires c κs = search needs
+
 add-be-at : tie.Need-add-be-at
 add-be-at c = search needs
 
 be-at-requires : tie.Need-be-at-requires
 be-at-requires c κs = search needs
-
-add-be-at-2 : tie.Need-add-be-at-2
-add-be-at-2 c = search needs
-
-be-at-requires-2 : tie.Need-be-at-requires-2
-be-at-requires-2 c κs = search needs
 
 cast-t18 : tie.Need-cast-t18
 cast-t18 c = search needs
@@ -66,45 +66,45 @@ add-t23 c = search needs
 shared-slice-read-t25 : tie.Need-shared-slice-read-t25
 shared-slice-read-t25 c = search needs
 
-add-be-at-3 : tie.Need-add-be-at-3
-add-be-at-3 c = search needs
+add-be-eight-2 : tie.Need-add-be-eight-2
+add-be-eight-2 c = search needs
 
-be-at-requires-3 : tie.Need-be-at-requires-3
-be-at-requires-3 c κs = search needs
+be-eight-requires-2 : tie.Need-be-eight-requires-2
+be-eight-requires-2 c κs = search needs
 
-add-be-at-4 : tie.Need-add-be-at-4
-add-be-at-4 c = search needs
+add-be-at-2 : tie.Need-add-be-at-2
+add-be-at-2 c = search needs
 
-be-at-requires-4 : tie.Need-be-at-requires-4
-be-at-requires-4 c κs = search needs
+be-at-requires-2 : tie.Need-be-at-requires-2
+be-at-requires-2 c κs = search needs
 
 cast-t28 : tie.Need-cast-t28
 cast-t28 c = search needs
 
-add-be-at-5 : tie.Need-add-be-at-5
-add-be-at-5 c = search needs
+add-be-eight-3 : tie.Need-add-be-eight-3
+add-be-eight-3 c = search needs
 
-be-at-requires-5 : tie.Need-be-at-requires-5
-be-at-requires-5 c κs = search needs
+be-eight-requires-3 : tie.Need-be-eight-requires-3
+be-eight-requires-3 c κs = search needs
 
-add-be-at-6 : tie.Need-add-be-at-6
-add-be-at-6 c = search needs
+add-be-eight-4 : tie.Need-add-be-eight-4
+add-be-eight-4 c = search needs
 
-be-at-requires-6 : tie.Need-be-at-requires-6
-be-at-requires-6 c κs = search needs
+be-eight-requires-4 : tie.Need-be-eight-requires-4
+be-eight-requires-4 c κs = search needs
 
-add-be-at-7 : tie.Need-add-be-at-7
-add-be-at-7 c = search needs
+add-be-eight-5 : tie.Need-add-be-eight-5
+add-be-eight-5 c = search needs
 
-be-at-requires-7 : tie.Need-be-at-requires-7
-be-at-requires-7 c κs = search needs
+be-eight-requires-5 : tie.Need-be-eight-requires-5
+be-eight-requires-5 c κs = search needs
 
 returns : tie.Need-returns
 unfolding rowAt
-returns c = rw (c .before .before .before .before .before .before .before .before .before .before .be-at .ensures .0, c .before .before .before .before .before .before .before .before .before .be-at2 .ensures .0, c .before .before .before .before .be-at3 .ensures .0, c .before .before .before .be-at4 .ensures .0, c .before .before .be-at5 .ensures .0, c .before .be-at6 .ensures .0, c .be-at7 .ensures .0)
+returns c = rw (c .before .before .before .before .before .before .before .before .before .before .be-eight .ensures, c .before .before .before .before .before .before .before .before .before .be-at .ensures .0, c .before .before .before .before .be-eight2 .ensures, c .before .before .before .be-at2 .ensures .0, c .before .before .be-eight3 .ensures, c .before .be-eight4 .ensures, c .be-eight5 .ensures)
 
-pub load-numbers-spec : {M : Type 1} → statement M
-load-numbers-spec =
+pub row-at-spec : {M : Type 1} → statement M
+row-at-spec =
     tie.close
     (tie.spec
     add-t5
@@ -115,10 +115,10 @@ load-numbers-spec =
     shared-slice-read-t13
     add-t5-2
     shared-slice-read-t13-2
+    add-be-eight
+    be-eight-requires
     add-be-at
     be-at-requires
-    add-be-at-2
-    be-at-requires-2
     cast-t18
     add-t5-3
     shared-slice-read-t10-2
@@ -128,15 +128,15 @@ load-numbers-spec =
     shared-slice-read-t13-3
     add-t23
     shared-slice-read-t25
-    add-be-at-3
-    be-at-requires-3
-    add-be-at-4
-    be-at-requires-4
+    add-be-eight-2
+    be-eight-requires-2
+    add-be-at-2
+    be-at-requires-2
     cast-t28
-    add-be-at-5
-    be-at-requires-5
-    add-be-at-6
-    be-at-requires-6
-    add-be-at-7
-    be-at-requires-7
+    add-be-eight-3
+    be-eight-requires-3
+    add-be-eight-4
+    be-eight-requires-4
+    add-be-eight-5
+    be-eight-requires-5
     returns)

@@ -4,15 +4,15 @@ use native.Mathlib.Omega.{arith}
 use borrow.Author.Needs.{needs}
 use lib.ListN.{length}
 use Rattle.row.specs.Table.{firstRow}
-use Rattle.row.specs.FindLaws.{passes, firstPassing, none-left, first-passes, first-fails}
-use Rattle.row.proofs.reading.first_passing.Statement.{statement}
-use Rattle.row.proofs.reading.first_passing.Tie as tie
+use Rattle.row.specs.FindLaws.{passes, none-left, first-passes, first-fails}
+use Rattle.row.proofs.finding.first_of.Statement.{statement}
+use Rattle.row.proofs.finding.first_of.Tie as tie
 
 abbrev Inv-loop : tie.InvT-loop
-Inv-loop table wanted at₀ left₀ at left = (at + left * 96 ≤ length table) × (firstRow (passes table wanted) left at ≡ firstPassing table wanted)
+Inv-loop table wanted start rows at₀ left₀ at left = (at + left * 96 ≤ length table) × (firstRow (passes table wanted) left at ≡ firstRow (passes table wanted) rows start)
 
 abbrev μ-loop : tie.MeasureT-loop
-μ-loop table wanted at₀ left₀ at left = left
+μ-loop table wanted start rows at₀ left₀ at left = left
 
 loop-holds : tie.Need-loop-holds Inv-loop μ-loop
 loop-holds c = (omega arith, refl)
@@ -38,8 +38,8 @@ returns c = let a = c .before .before .before .args in none-left (passes (a .tab
 returns-2 : tie.Need-returns-2 Inv-loop μ-loop
 returns-2 c = let a = c .before .before .before .before .before .args in let l = c .before .before .before .loop in first-passes (passes (a .table .now) (a .wanted)) (l .at) (l .left) (c .before .before .if1 .left) (sym (c .before .passes .ensures) ∙ c .if2 .taken) ∙ l .inv .1
 
-pub first-passing-spec : {M : Type 1} → statement M
-first-passing-spec =
+pub first-of-spec : {M : Type 1} → statement M
+first-of-spec =
     tie.close
     (tie.spec
     Inv-loop

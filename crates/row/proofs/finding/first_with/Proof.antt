@@ -1,0 +1,59 @@
+use Prim.Native.Nat.{_+_, _*_, _/_, _≤_}
+use mathlib.Core.Path.{_≡_, refl, sym, _∙_}
+use native.Mathlib.Omega.{arith}
+use borrow.Author.Needs.{needs}
+use lib.ListN.{length}
+use Rattle.row.specs.declared.finding.Wanted.the-variants.{Serial}
+use Rattle.row.specs.Table.{firstRow}
+use Rattle.row.specs.FindLaws.{passes, enough-left, four-passed}
+use Rattle.row.proofs.finding.first_with.Statement.{statement}
+use Rattle.row.proofs.finding.first_with.Tie as tie
+
+abbrev Inv-loop : tie.InvT-loop
+Inv-loop table wanted at₀ left₀ at left = (at + left * 96 ≤ length table) × (firstRow (passes table (Serial wanted)) left at ≡ firstRow (passes table (Serial wanted)) (length table / 96) 0)
+
+abbrev μ-loop : tie.MeasureT-loop
+μ-loop table wanted at₀ left₀ at left = left
+
+loop-holds : tie.Need-loop-holds Inv-loop μ-loop
+loop-holds c = (omega arith, refl)
+
+four-lack-requires : tie.Need-four-lack-requires Inv-loop μ-loop
+four-lack-requires c κs = search needs
+
+mul-at : tie.Need-mul-at Inv-loop μ-loop
+mul-at c = search needs
+
+add-at : tie.Need-add-at Inv-loop μ-loop
+add-at c = let h = enough-left (c .before .before .before .before .args .table .now) (c .before .before .before .before .args .wanted) (c .before .before .loop .at) (c .before .before .loop .left) (sym (c .before .four-lack .ensures) ∙ c .if1 .taken) in search needs
+
+sub-left : tie.Need-sub-left Inv-loop μ-loop
+sub-left c = enough-left (c .before .before .before .before .args .table .now) (c .before .before .before .before .args .wanted) (c .before .before .loop .at) (c .before .before .loop .left) (sym (c .before .four-lack .ensures) ∙ c .if1 .taken)
+
+loop-less : tie.Need-loop-less Inv-loop μ-loop
+loop-less c = let h = enough-left (c .before .before .before .before .args .table .now) (c .before .before .before .before .args .wanted) (c .before .before .loop .at) (c .before .before .loop .left) (sym (c .before .four-lack .ensures) ∙ c .if1 .taken) in omega arith
+
+loop-again : tie.Need-loop-again Inv-loop μ-loop
+loop-again c = let a = c .before .before .before .before .args in let l = c .before .before .loop in let t = sym (c .before .four-lack .ensures) ∙ c .if1 .taken in let h = enough-left (a .table .now) (a .wanted) (l .at) (l .left) t in (omega arith, four-passed (a .table .now) (a .wanted) (l .at) (l .left) t ∙ l .inv .1)
+
+first-of-requires : tie.Need-first-of-requires Inv-loop μ-loop
+first-of-requires c κs = search needs
+
+returns : tie.Need-returns Inv-loop μ-loop
+returns c = c .first-of .ensures ∙ c .before .before .before .loop .inv .1
+
+pub first-with-spec : {M : Type 1} → statement M
+first-with-spec =
+    tie.close
+    (tie.spec
+    Inv-loop
+    μ-loop
+    loop-holds
+    four-lack-requires
+    mul-at
+    add-at
+    sub-left
+    loop-less
+    loop-again
+    first-of-requires
+    returns)

@@ -1,0 +1,53 @@
+use Rattle.row.specs.FindLaws.{few-left, four-left}
+use borrow.Author.Needs.{needs}
+use Rattle.row.proofs.finding.four_lack.Statement.{statement}
+use Rattle.row.proofs.finding.four_lack.Tie as tie
+
+returns : tie.Need-returns
+returns c = few-left (c .before .before .args .table .now) (c .before .before .args .wanted) (c .before .before .args .at) (c .before .before .args .left) (c .if1 .taken)
+
+serial-is-requires : tie.Need-serial-is-requires
+serial-is-requires c κs = search needs
+
+add-serial-is : tie.Need-add-serial-is
+add-serial-is c = search needs
+
+serial-is-requires-2 : tie.Need-serial-is-requires-2
+serial-is-requires-2 c κs = search needs
+
+mul-serial-is : tie.Need-mul-serial-is
+mul-serial-is c = search needs
+
+add-serial-is-2 : tie.Need-add-serial-is-2
+add-serial-is-2 c = search needs
+
+serial-is-requires-3 : tie.Need-serial-is-requires-3
+serial-is-requires-3 c κs = search needs
+
+mul-serial-is-2 : tie.Need-mul-serial-is-2
+mul-serial-is-2 c = search needs
+
+add-serial-is-3 : tie.Need-add-serial-is-3
+add-serial-is-3 c = search needs
+
+serial-is-requires-4 : tie.Need-serial-is-requires-4
+serial-is-requires-4 c κs = search needs
+
+returns-2 : tie.Need-returns-2
+returns-2 c = four-left (c .before .before .before .before .before .before .args .table .now) (c .before .before .before .before .before .before .args .wanted) (c .before .before .before .before .before .before .args .at) (c .before .before .before .before .before .before .args .left) (c .before .before .before .before .if1 .left) (c .before .before .before .serial-is .ensures) (c .before .before .serial-is2 .ensures) (c .before .serial-is3 .ensures) (c .serial-is4 .ensures)
+
+pub four-lack-spec : {M : Type 1} → statement M
+four-lack-spec =
+    tie.close
+    (tie.spec
+    returns
+    serial-is-requires
+    add-serial-is
+    serial-is-requires-2
+    mul-serial-is
+    add-serial-is-2
+    serial-is-requires-3
+    mul-serial-is-2
+    add-serial-is-3
+    serial-is-requires-4
+    returns-2)
