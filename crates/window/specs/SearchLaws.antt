@@ -42,7 +42,7 @@ module _ (test : ℕ → Bool) (at end : ℕ) where
 
 -- ---- the range: a test that is another within a range, and fails outside it, is searched by the other there
 
-sweep-same : (test other : ℕ → Bool) (from k : ℕ) → ((r : ℕ) → from ≤ r → r < from + k → test r ≡ other r) → sweep test from k ≡ sweep other from k
+pub sweep-same : (test other : ℕ → Bool) (from k : ℕ) → ((r : ℕ) → from ≤ r → r < from + k → test r ≡ other r) → sweep test from k ≡ sweep other from k
 unfolding sweep
 sweep-same test other from zero h = refl
 sweep-same test other from (suc k) h =
