@@ -12,3 +12,4 @@ pub mod SearchLaws
 pub mod TokenCheckLaws
 pub mod Lanes
 pub mod LanesLaws
+pub mod LanesCheckLaws

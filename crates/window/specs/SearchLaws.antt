@@ -147,6 +147,11 @@ judge tooFar (At a) used = accepting tooFar (a .0)
 judge tooFar Nowhere (At a) = Used
 judge tooFar Nowhere Nowhere = Wrong
 
+-- a search of the used steps, where no fresh one matched
+abbrev pub usedOrWrong : Found → Outcome
+usedOrWrong (At a) = Used
+usedOrWrong Nowhere = Wrong
+
 judged-found : (tooFar : ℕ → Bool) (ahead : ℕ) (fresh used : Option ℕ)
     → settled tooFar ahead (judged fresh used) ≡ judge tooFar (foundOf (shifted ahead fresh)) (foundOf (shifted ahead used))
 judged-found tooFar ahead (some s) used = refl

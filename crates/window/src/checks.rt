@@ -5,6 +5,9 @@ use crate::Size;
 use crate::Step;
 use crate::TIME_TOKEN;
 use crate::Track;
+use crate::lanes::goal_of;
+use crate::lanes::search_again;
+use crate::lanes::search_keyed;
 use crate::matching::ahead_of;
 use crate::range::FARTHEST;
 use crate::range::candidates;
@@ -17,10 +20,15 @@ use crate::search::first_match;
 use otp::prepared::prepare;
 ghost use mathlib.Core.Path.{_≡_};
 ghost use mathlib.Core.Bool.{true};
+ghost use lib.ListN.{length};
 ghost use Rattle.window.specs.Window.{Sound};
 ghost use Rattle.window.specs.Check.{accepting};
+ghost use Rattle.window.specs.SearchLaws.{usedOrWrong};
 ghost use Rattle.window.specs.TokenCheck.{tooFar, checkOf};
 ghost use Rattle.window.specs.PasswordAtLaws.{inRange, countsRight};
+
+// The algorithm whose candidates go side by side.
+const SM4: u8 = 4;
 
 // Whether the presented passwords have as many digits as the token's.
 fn counts_right(digits: u8, presented: &[u8], following: &[u8]) -> bool
@@ -92,6 +100,54 @@ fn searched(
     }
 }
 
+// What a search of the used steps means.
+fn used_or_wrong(found: Found) -> Outcome
+    ensures { λ r. ⌜ r ≡ usedOrWrong found ⌝ }
+{
+    match found {
+        Found::At(_) => Outcome::Used,
+        Found::Nowhere => Outcome::Wrong,
+    }
+}
+
+// The same by SM4 without a challenge, several steps at once. The first of them make the round keys, which serve all later ones.
+fn searched_in_lanes(
+    track: Track,
+    clock: Seconds,
+    size: Size,
+    key: &[u8],
+    challenge: &[u8],
+    presented: &[u8],
+    following: &[u8],
+) -> Outcome
+    requires { ⌜ Sound track (clock .0) ⌝ }
+    requires { ⌜ inRange (track .rule) (now key) (now challenge) ≡ true ⌝ }
+    requires { ⌜ track .rule .algorithm ≡ 4 ⌝ }
+    requires { ⌜ length (now challenge) ≡ 0 ⌝ }
+    requires { ⌜ countsRight (track .rule .digits) (now presented) (now following) ≡ true ⌝ }
+    ensures { λ r. ⌜ r ≡ checkOf track (clock .0) size (now (key .entry)) (now (challenge .entry)) (now (presented .entry)) (now (following .entry)) ⌝ }
+{
+    let goal = goal_of(track.rule.digits, presented, following);
+    let timed = track.rule.kind == TIME_TOKEN;
+    let range = candidates(track, clock, size);
+    let ahead = ahead_of(following);
+    let first = range.first.0 + ahead;
+    let end = range.end.0;
+    let fresh = larger(first, track.next.0 + ahead);
+    let used_end = smaller(end, track.next.0 + ahead);
+    let mut keys = [0u32; 32];
+    if end <= fresh {
+        if used_end <= first {
+            return Outcome::Wrong;
+        }
+        return used_or_wrong(search_keyed(goal, key, timed, first, used_end, &mut keys));
+    }
+    if let Found::At(a) = search_keyed(goal, key, timed, fresh, end, &mut keys) {
+        return accept(track, clock, a.0);
+    }
+    used_or_wrong(search_again(goal, &keys, timed, first, used_end))
+}
+
 // The check of one presented password, or of two as a pair; following is empty where there is one.
 pub fn check(
     track: Track,
@@ -108,6 +164,9 @@ pub fn check(
 {
     if !counts_right(track.rule.digits, presented, following) {
         return Outcome::Wrong;
+    }
+    if (track.rule.algorithm == SM4) & (challenge.len() == 0) {
+        return searched_in_lanes(track, clock, size, key, challenge, presented, following);
     }
     searched(track, clock, size, key, challenge, presented, following)
 }
