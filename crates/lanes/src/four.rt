@@ -1,12 +1,12 @@
 // Four blocks under round keys that are stored.
+use crate::boxes::boxes;
+use crate::round::round;
 use sm4::Quad;
-use sm4::round::round;
-use sm4::table::sbox;
 ghost use mathlib.Core.Path.{_≡_};
 ghost use Prim.Native.Nat.{_+_, _≤_};
 ghost use lib.ListN.{length, drop};
-ghost use Rattle.sm4.specs.Sbox.{sbox};
 ghost use Rattle.sm4.specs.Sm4.{linear, steps};
+ghost use Rattle.lanes.specs.Boxes.{boxes};
 
 // Four blocks, or their states X_i to X_i+3.
 pub struct Four {
@@ -17,8 +17,8 @@ pub struct Four {
 }
 
 // Four rounds of each, with the round keys from i on.
-fn four_rounds(table: &[u8], keys: &[u32], s: Four, i: usize) -> Four
-    requires { ⌜ now table ≡ sbox ⌝ }
+fn four_rounds(table: &[u32], keys: &[u32], s: Four, i: usize) -> Four
+    requires { ⌜ now table ≡ boxes ⌝ }
     requires { ⌜ i + 4 ≤ length (now keys) ⌝ }
     ensures { λ r. ⌜ r .first ≡ steps linear (drop i (now (keys .entry))) 4 (s .first) ⌝ }
     ensures { λ r. ⌜ r .second ≡ steps linear (drop i (now (keys .entry))) 4 (s .second) ⌝ }
@@ -89,7 +89,7 @@ pub fn four_blocks(keys: &[u32], blocks: Four) -> Four
     ensures { λ r. ⌜ r .third ≡ steps linear (now (keys .entry)) 32 (blocks .third) ⌝ }
     ensures { λ r. ⌜ r .fourth ≡ steps linear (now (keys .entry)) 32 (blocks .fourth) ⌝ }
 {
-    let table = sbox();
+    let table = boxes();
     let mut s = blocks;
     let mut i = 0;
     while i < 32 {
