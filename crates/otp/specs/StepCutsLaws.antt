@@ -39,13 +39,15 @@ pub three-cuts : (keys : List ℕ) (timed : Bool) (s : ℕ) {a b c : ℕ} → a 
 unfolding cutsBy
 three-cuts keys timed s ea eb ec = rw (ea, eb, ec) (let e : s + 2 ≡ s + 1 + 1 = omega arith in rw e)
 
-pub four-cuts : (keys : List ℕ) (timed : Bool) (s : ℕ) {a b c d : ℕ} → a ≡ cutBy keys timed s → b ≡ cutBy keys timed (s + 1) → c ≡ cutBy keys timed (s + 2) → d ≡ cutBy keys timed (s + 3)
-    → a ∷ b ∷ c ∷ d ∷ [] ≡ cutsBy keys timed 4 s
+pub five-cuts : (keys : List ℕ) (timed : Bool) (s : ℕ) {a b c d e : ℕ}
+    → a ≡ cutBy keys timed s → b ≡ cutBy keys timed (s + 1) → c ≡ cutBy keys timed (s + 2) → d ≡ cutBy keys timed (s + 3) → e ≡ cutBy keys timed (s + 4)
+    → a ∷ b ∷ c ∷ d ∷ e ∷ [] ≡ cutsBy keys timed 5 s
 unfolding cutsBy
-four-cuts keys timed s ea eb ec ed =
-    let e : s + 2 ≡ s + 1 + 1 = omega arith in
-    let f : s + 3 ≡ s + 1 + 1 + 1 = omega arith in
-    rw (ea, eb, ec, ed, e, f)
+five-cuts keys timed s ea eb ec ed ee =
+    let f : s + 2 ≡ s + 1 + 1 = omega arith in
+    let g : s + 3 ≡ s + 1 + 1 + 1 = omega arith in
+    let h : s + 4 ≡ s + 1 + 1 + 1 + 1 = omega arith in
+    rw (ea, eb, ec, ed, ee, f, g, h)
 
 -- one lane
 pub lane-cut : (keys : List ℕ) (timed : Bool) (s : ℕ) {x q : Quad} {r : ℕ} → x ≡ stepBlock timed s → q ≡ steps linear keys 32 x → r ≡ wordsCut q → r ≡ cutBy keys timed s

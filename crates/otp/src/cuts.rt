@@ -1,9 +1,9 @@
 // The cuts of consecutive steps side by side, by SM4 without a challenge, for the proved layers above: ID is then one block.
 use crate::cut::cut_words;
-use lanes::Four;
+use lanes::Five;
 use lanes::Three;
 use lanes::first_three;
-use lanes::four_blocks;
+use lanes::five_blocks;
 use sm4::Quad;
 ghost use mathlib.Core.Path.{_≡_};
 ghost use Prim.Native.Nat.{_^_, _≤_, _<_};
@@ -53,22 +53,30 @@ pub fn first_cuts(key: &[u8], timed: bool, s: u64, keys: &mut [u32]) -> [u32; 3]
     [cut_words(a), cut_words(b), cut_words(c)]
 }
 
-// Those of four steps from s on, under round keys.
-pub fn next_cuts(keys: &[u32], timed: bool, s: u64) -> [u32; 4]
+// Those of five steps from s on, under round keys.
+pub fn next_cuts(keys: &[u32], timed: bool, s: u64) -> [u32; 5]
     requires { ⌜ length (now keys) ≡ 32 ⌝ }
     requires { ⌜ s < 2 ^ 63 ⌝ }
-    ensures { λ r. ⌜ r ≡ cutsBy (now (keys .entry)) timed 4 s ⌝ }
+    ensures { λ r. ⌜ r ≡ cutsBy (now (keys .entry)) timed 5 s ⌝ }
 {
-    let blocks = Four {
+    let blocks = Five {
         first: block_of(timed, s),
         second: block_of(timed, s + 1),
         third: block_of(timed, s + 2),
         fourth: block_of(timed, s + 3),
+        fifth: block_of(timed, s + 4),
     };
-    let states = four_blocks(keys, blocks);
+    let states = five_blocks(keys, blocks);
     let a = states.first;
     let b = states.second;
     let c = states.third;
     let d = states.fourth;
-    [cut_words(a), cut_words(b), cut_words(c), cut_words(d)]
+    let e = states.fifth;
+    [
+        cut_words(a),
+        cut_words(b),
+        cut_words(c),
+        cut_words(d),
+        cut_words(e),
+    ]
 }

@@ -91,7 +91,7 @@ fn first_among(goal: Goal, before: u32, cuts: &[u32], s: u64, end: u64) -> Found
     }
 }
 
-// The search from first on, four steps at once; before is the cut of the step before first.
+// The search from first on, five steps at once; before is the cut of the step before first.
 fn search_on(goal: Goal, keys: &[u32], timed: bool, before: u32, first: u64, end: u64) -> Found
     requires { ⌜ 0 < goal .modulus ⌝ }
     requires { ⌜ length (now keys) ≡ 32 ⌝ }
@@ -109,8 +109,8 @@ fn search_on(goal: Goal, keys: &[u32], timed: bool, before: u32, first: u64, end
         if let Found::At(a) = first_among(goal, prior, &cuts, s, end) {
             break Found::At(a);
         }
-        prior = cuts[3];
-        s += 4;
+        prior = cuts[4];
+        s += 5;
     }
 }
 
@@ -119,7 +119,7 @@ fn search_from(goal: Goal, keys: &[u32], timed: bool, cuts: &[u32], first: u64, 
     requires { ⌜ 0 < goal .modulus ⌝ }
     requires { ⌜ length (now keys) ≡ 32 ⌝ }
     requires { ⌜ 2 ≤ length (now cuts) ⌝ }
-    requires { ⌜ length (now cuts) ≤ 4 ⌝ }
+    requires { ⌜ length (now cuts) ≤ 5 ⌝ }
     requires { ⌜ aheadBy goal ≤ first ⌝ }
     requires { ⌜ now cuts ≡ cutsBy (now keys) timed (length (now cuts)) (first - aheadBy goal) ⌝ }
     requires { ⌜ first ≤ 2 ^ 62 ⌝ }

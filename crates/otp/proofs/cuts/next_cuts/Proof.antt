@@ -1,4 +1,4 @@
-use Rattle.otp.specs.StepCutsLaws.{four-cuts, lane-cut}
+use Rattle.otp.specs.StepCutsLaws.{five-cuts, lane-cut}
 use Prim.Native.Nat.{_+_}
 use native.Mathlib.Omega.{arith}
 use borrow.Author.Needs.{needs}
@@ -26,8 +26,14 @@ add-block-of-3 c = search needs
 block-of-requires-4 : tie.Need-block-of-requires-4
 block-of-requires-4 c κs = search needs
 
-four-blocks-requires : tie.Need-four-blocks-requires
-four-blocks-requires c κs = search needs
+add-block-of-4 : tie.Need-add-block-of-4
+add-block-of-4 c = search needs
+
+block-of-requires-5 : tie.Need-block-of-requires-5
+block-of-requires-5 c κs = search needs
+
+five-blocks-requires : tie.Need-five-blocks-requires
+five-blocks-requires c κs = search needs
 
 cut-words-requires : tie.Need-cut-words-requires
 cut-words-requires c κs = search needs
@@ -41,8 +47,11 @@ cut-words-requires-3 c κs = search needs
 cut-words-requires-4 : tie.Need-cut-words-requires-4
 cut-words-requires-4 c κs = search needs
 
+cut-words-requires-5 : tie.Need-cut-words-requires-5
+cut-words-requires-5 c κs = search needs
+
 returns : tie.Need-returns
-returns c = four-cuts (c .before .before .before .before .before .before .before .before .before .before .before .before .before .before .args .keys .now) (c .before .before .before .before .before .before .before .before .before .before .before .before .before .before .args .timed) (c .before .before .before .before .before .before .before .before .before .before .before .before .before .before .args .s) (lane-cut (c .before .before .before .before .before .before .before .before .before .before .before .before .before .before .args .keys .now) (c .before .before .before .before .before .before .before .before .before .before .before .before .before .before .args .timed) (c .before .before .before .before .before .before .before .before .before .before .before .before .before .before .args .s) (c .before .before .before .before .before .before .before .before .before .before .before .before .block-of .ensures) (c .before .before .before .before .before .before .before .before .four-blocks .ensures .0) (c .before .before .before .cut-words .ensures)) (lane-cut (c .before .before .before .before .before .before .before .before .before .before .before .before .before .before .args .keys .now) (c .before .before .before .before .before .before .before .before .before .before .before .before .before .before .args .timed) (c .before .before .before .before .before .before .before .before .before .before .before .before .before .before .args .s + 1) (c .before .before .before .before .before .before .before .before .before .before .before .block-of2 .ensures) (c .before .before .before .before .before .before .before .before .four-blocks .ensures .1 .0) (c .before .before .cut-words2 .ensures)) (lane-cut (c .before .before .before .before .before .before .before .before .before .before .before .before .before .before .args .keys .now) (c .before .before .before .before .before .before .before .before .before .before .before .before .before .before .args .timed) (c .before .before .before .before .before .before .before .before .before .before .before .before .before .before .args .s + 2) (c .before .before .before .before .before .before .before .before .before .before .block-of3 .ensures) (c .before .before .before .before .before .before .before .before .four-blocks .ensures .1 .1 .0) (c .before .cut-words3 .ensures)) (lane-cut (c .before .before .before .before .before .before .before .before .before .before .before .before .before .before .args .keys .now) (c .before .before .before .before .before .before .before .before .before .before .before .before .before .before .args .timed) (c .before .before .before .before .before .before .before .before .before .before .before .before .before .before .args .s + 3) (c .before .before .before .before .before .before .before .before .before .block-of4 .ensures) (c .before .before .before .before .before .before .before .before .four-blocks .ensures .1 .1 .1) (c .cut-words4 .ensures))
+returns c = five-cuts (c .before .before .before .before .before .before .before .before .before .before .before .before .before .before .before .before .before .args .keys .now) (c .before .before .before .before .before .before .before .before .before .before .before .before .before .before .before .before .before .args .timed) (c .before .before .before .before .before .before .before .before .before .before .before .before .before .before .before .before .before .args .s) (lane-cut (c .before .before .before .before .before .before .before .before .before .before .before .before .before .before .before .before .before .args .keys .now) (c .before .before .before .before .before .before .before .before .before .before .before .before .before .before .before .before .before .args .timed) (c .before .before .before .before .before .before .before .before .before .before .before .before .before .before .before .before .before .args .s) (c .before .before .before .before .before .before .before .before .before .before .before .before .before .before .before .block-of .ensures) (c .before .before .before .before .before .before .before .before .before .before .five-blocks .ensures .0) (c .before .before .before .before .cut-words .ensures)) (lane-cut (c .before .before .before .before .before .before .before .before .before .before .before .before .before .before .before .before .before .args .keys .now) (c .before .before .before .before .before .before .before .before .before .before .before .before .before .before .before .before .before .args .timed) (c .before .before .before .before .before .before .before .before .before .before .before .before .before .before .before .before .before .args .s + 1) (c .before .before .before .before .before .before .before .before .before .before .before .before .before .before .block-of2 .ensures) (c .before .before .before .before .before .before .before .before .before .before .five-blocks .ensures .1 .0) (c .before .before .before .cut-words2 .ensures)) (lane-cut (c .before .before .before .before .before .before .before .before .before .before .before .before .before .before .before .before .before .args .keys .now) (c .before .before .before .before .before .before .before .before .before .before .before .before .before .before .before .before .before .args .timed) (c .before .before .before .before .before .before .before .before .before .before .before .before .before .before .before .before .before .args .s + 2) (c .before .before .before .before .before .before .before .before .before .before .before .before .before .block-of3 .ensures) (c .before .before .before .before .before .before .before .before .before .before .five-blocks .ensures .1 .1 .0) (c .before .before .cut-words3 .ensures)) (lane-cut (c .before .before .before .before .before .before .before .before .before .before .before .before .before .before .before .before .before .args .keys .now) (c .before .before .before .before .before .before .before .before .before .before .before .before .before .before .before .before .before .args .timed) (c .before .before .before .before .before .before .before .before .before .before .before .before .before .before .before .before .before .args .s + 3) (c .before .before .before .before .before .before .before .before .before .before .before .before .block-of4 .ensures) (c .before .before .before .before .before .before .before .before .before .before .five-blocks .ensures .1 .1 .1 .0) (c .before .cut-words4 .ensures)) (lane-cut (c .before .before .before .before .before .before .before .before .before .before .before .before .before .before .before .before .before .args .keys .now) (c .before .before .before .before .before .before .before .before .before .before .before .before .before .before .before .before .before .args .timed) (c .before .before .before .before .before .before .before .before .before .before .before .before .before .before .before .before .before .args .s + 4) (c .before .before .before .before .before .before .before .before .before .before .before .block-of5 .ensures) (c .before .before .before .before .before .before .before .before .before .before .five-blocks .ensures .1 .1 .1 .1) (c .cut-words5 .ensures))
 
 pub next-cuts-spec : {M : Type 1} → statement M
 next-cuts-spec =
@@ -55,9 +64,12 @@ next-cuts-spec =
     block-of-requires-3
     add-block-of-3
     block-of-requires-4
-    four-blocks-requires
+    add-block-of-4
+    block-of-requires-5
+    five-blocks-requires
     cut-words-requires
     cut-words-requires-2
     cut-words-requires-3
     cut-words-requires-4
+    cut-words-requires-5
     returns)

@@ -26,7 +26,7 @@ slice-aggregate-search-from : tie.Need-slice-aggregate-search-from
 slice-aggregate-search-from c = search needs
 
 search-from-requires : tie.Need-search-from-requires
-search-from-requires c κs = let l = ap length (c .before .next-cuts .ensures) ∙ length-cutsBy (c .before .before .before .before .before .args .keys .now) (c .before .before .before .before .before .args .timed) 4 (c .before .before .before .before .before .args .first - c .before .before .ahead-by .result) in (c .before .before .before .before .before .pre .0, (c .before .before .before .before .before .pre .1 .0, (omega (arith, l), (omega (arith, l), (c .before .before .before .before .before .pre .1 .1 .0, (cuts-whole (c .before .before .before .before .before .args .keys .now) (c .before .before .before .before .before .args .timed) 4 (c .before .before .before .before .before .args .first) (c .before .before .ahead-by .ensures .0) (c .before .next-cuts .ensures), (c .before .before .before .before .before .pre .1 .1 .1 .0, c .before .before .before .before .before .pre .1 .1 .1 .1)))))))
+search-from-requires c κs = let l = ap length (c .before .next-cuts .ensures) ∙ length-cutsBy (c .before .before .before .before .before .args .keys .now) (c .before .before .before .before .before .args .timed) 5 (c .before .before .before .before .before .args .first - c .before .before .ahead-by .result) in (c .before .before .before .before .before .pre .0, (c .before .before .before .before .before .pre .1 .0, (omega (arith, l), (omega (arith, l), (c .before .before .before .before .before .pre .1 .1 .0, (cuts-whole (c .before .before .before .before .before .args .keys .now) (c .before .before .before .before .before .args .timed) 5 (c .before .before .before .before .before .args .first) (c .before .before .ahead-by .ensures .0) (c .before .next-cuts .ensures), (c .before .before .before .before .before .pre .1 .1 .1 .0, c .before .before .before .before .before .pre .1 .1 .1 .1)))))))
 
 returns-2 : tie.Need-returns-2
 returns-2 c = search needs
