@@ -1,21 +1,20 @@
 -- Digits are the same exactly if their numbers are.
 use Prim.Native.Nat.{ℕ, zero, suc, _+_, _-_, _*_, _/_, _%_, _^_, _≤_, _<_}
-use mathlib.Core.Bool.{Bool, true, false, cond, _&&_}
-use mathlib.Core.Path.{_≡_, refl, sym, ap, ap₂, _∙_}
+use mathlib.Core.Bool.{Bool, true, false, _&&_}
+use mathlib.Core.Path.{_≡_, refl, sym, ap, _∙_}
 use mathlib.Core.List.{List, [], _∷_, _++_, append-assoc, append-nil}
-use native.Mathlib.Nat.{add-zero, add-suc, suc-add, zero-add, pow-suc, mod-one, mod-lt, mod-le, mod-mod, one-le-pow, pow-le-pow-right, zero-lt-suc, le-trans}
+use native.Mathlib.Nat.{add-zero, zero-add, pow-suc, mod-one, mod-lt, mod-le, mod-mod, one-le-pow, pow-le-pow-right, zero-lt-suc}
 use native.Mathlib.Numerals.{add-one}
 use native.Mathlib.Omega.{arith}
-use borrow.Author.Tests.{eq-eqb, ne-eqb, eqb-true, eqb-false, le-leb, leb-true}
+use borrow.Author.Tests.{ne-eqb, eqb-true, eqb-false, le-leb, leb-true}
 use lib.Arith.{mod-mul}
 use lib.Dec.{eqb, leb}
 use lib.ListN.{length, getD, drop, drop-of-length-le}
 use lib.Seq.{drop-cons}
 use Rattle.words.specs.Lists.{sameBytes, allWithin}
-use Rattle.words.specs.ListsLaws.{same-equal, same-refl, by-test, and-true}
+use Rattle.words.specs.ListsLaws.{same-equal, same-refl, by-test}
 use Rattle.words.specs.Tables.{and-left, and-right}
 use Rattle.otp.specs.Password.{decimals}
-use Rattle.otp.specs.PasswordLaws.{length-decimals}
 use Rattle.otp.specs.Numbers.{numberFrom, numberOf}
 
 clash : {X : Type 0} {b : Bool} → b ≡ true → b ≡ false → X

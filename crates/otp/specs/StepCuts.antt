@@ -1,5 +1,5 @@
 -- The cut of a step's password by SM4 without a challenge: ID is one block, and the cut the sum of the words of its last state.
-use Prim.Native.Nat.{ℕ, zero, suc, _+_, _*_, _/_, _%_, _^_}
+use Prim.Native.Nat.{ℕ, zero, suc, _+_, _/_, _%_, _^_}
 use mathlib.Core.Bool.{Bool, cond}
 use mathlib.Core.List.{List, [], _∷_}
 use Rattle.sm4.specs.Sm4.{linear, steps}

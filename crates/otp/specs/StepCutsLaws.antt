@@ -1,12 +1,11 @@
 -- A step's cut under a key's round keys is the password's.
-use Prim.Native.Nat.{ℕ, zero, suc, _+_, _-_, _*_, _/_, _%_, _^_, _≤_, _<_}
+use Prim.Native.Nat.{ℕ, zero, suc, _+_, _-_, _*_, _/_, _%_, _^_, _<_}
 use mathlib.Core.Bool.{Bool, true, false, cond}
 use mathlib.Core.Path.{_≡_, refl, sym, ap, ap₂, _∙_}
 use mathlib.Core.List.{List, [], _∷_, _++_, append-assoc, append-nil}
-use native.Mathlib.Nat.{add-zero, zero-add, add-suc, suc-add, not-suc-le-zero, le-of-suc-le-suc}
-use native.Mathlib.Numerals.{add-one}
+use native.Mathlib.Nat.{add-zero, not-suc-le-zero, le-of-suc-le-suc}
 use native.Mathlib.Omega.{arith}
-use lib.ListN.{length, getD, take, drop, replicate, length-append}
+use lib.ListN.{length, getD, take, replicate, length-append}
 use lib.Seq.{take-all}
 use Rattle.words.specs.Bytes.{beAt, beBytes}
 use Rattle.words.specs.BytesLaws.{beBytes-split, beBytes-mod, length-beBytes}
@@ -14,7 +13,6 @@ use Rattle.sm4.specs.Sm4.{linear, steps, wordsOf, reversed, encryptWith, roundK
 use Rattle.sm4.specs.Sm4Laws.{QuadBelow, steps-below, linear-lt}
 use Rattle.sm4.specs.ReturnLaws.{output-words}
 use Rattle.sm4.specs.declared.round.Quad.{Quad}
-use Rattle.otp.specs.declared.Factor.{Factor}
 use Rattle.otp.specs.declared.Factor.the-variants.{Absent, Present}
 use Rattle.otp.specs.Password.{factorBytes, idOf, filled, toBlocks, blockAt, outputOf, chained, wordSum, cut}
 use Rattle.otp.specs.ChainLaws.{prepared, bytes-words}

@@ -1,4 +1,4 @@
-// The block cipher SM4 (GB/T 32907): round keys from a key, and the encryption of a block.
+// The block cipher SM4 (GB/T 32907): round keys from a key, and the encryption of a block. The modules that are public serve the crate lanes.
 mod chaining;
 mod encryption;
 pub mod round;

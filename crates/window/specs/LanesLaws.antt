@@ -1,11 +1,11 @@
 -- The search by cuts is the search by passwords.
 use Prim.Native.Nat.{ℕ, zero, suc, _+_, _-_, _%_, _^_, _≤_, _<_, min}
 use mathlib.Core.Path.{_≡_, refl, sym, ap, ap₂, _∙_}
-use mathlib.Core.Bool.{Bool, true, false, cond, not, _&&_, _||_}
+use mathlib.Core.Bool.{Bool, true, false, not, _&&_, _||_}
 use mathlib.Core.Logic.{⊎-elim}
 use mathlib.Core.List.{List, [], _∷_}
 use mathlib.Core.Option.{Option, none, some}
-use native.Mathlib.Nat.{add-zero, mod-lt, le-trans, div-le-self, zero-lt-suc, one-le-pow}
+use native.Mathlib.Nat.{add-zero, mod-lt, zero-lt-suc}
 use native.Mathlib.Numerals.{add-one}
 use native.Mathlib.Omega.{arith}
 use borrow.Author.Tests.{eq-eqb, ne-eqb, eqb-true}
@@ -14,12 +14,12 @@ use lib.ListN.{length, getD, take, drop}
 use lib.Seq.{take-all}
 use Rattle.words.specs.ListsLaws.{by-test, and-true}
 use Rattle.words.specs.Tables.{and-left, and-right}
-use Rattle.otp.specs.Password.{keyed, cut, shown, passwordOf, algorithmSm3}
+use Rattle.otp.specs.Password.{keyed, cut, shown, passwordOf}
 use Rattle.otp.specs.ChainLaws.{prepared}
 use Rattle.otp.specs.Numbers.{numberOf}
 use Rattle.otp.specs.NumbersLaws.{same-number}
 use Rattle.otp.specs.StepCuts.{cutBy, cutsBy}
-use Rattle.otp.specs.StepCutsLaws.{stepId, step-cut, length-cutsBy, cutsBy-at}
+use Rattle.otp.specs.StepCutsLaws.{step-cut, length-cutsBy, cutsBy-at}
 use Rattle.window.specs.declared.Rule.{Rule}
 use Rattle.window.specs.declared.Step.{Step}
 use Rattle.window.specs.declared.search.Found.{Found}
@@ -28,8 +28,8 @@ use Rattle.window.specs.declared.lanes.Goal.{Goal}
 use Rattle.window.specs.Window.{timeToken}
 use Rattle.window.specs.Check.{orElse}
 use Rattle.window.specs.CheckLaws.{sweep, order}
-use Rattle.window.specs.PasswordAt.{timeOf, countOf, passwordAt, hasPassword}
-use Rattle.window.specs.PasswordAtLaws.{aheadOf, matchesAt, countsRight}
+use Rattle.window.specs.PasswordAt.{passwordAt, hasPassword}
+use Rattle.window.specs.PasswordAtLaws.{matchesAt, countsRight}
 use Rattle.window.specs.SearchLaws.{foundOf, sweep-same}
 use Rattle.window.specs.Lanes.{goalOf, aheadBy, hits, laneTest, listTest}
 
@@ -166,9 +166,6 @@ sweep-part test s n end =
 module _ (goal : Goal) (keys : List ℕ) (timed : Bool) (n s end : ℕ) {before : ℕ} {cuts : List ℕ} {f : Found} (ec : cuts ≡ cutsBy keys timed n s)
     (eb : goal .pair ≡ true → before ≡ cutBy keys timed (s - 1))
     (ef : f ≡ foundOf (sweep (listTest goal before cuts s) s (min (s + length cuts) end - s))) where
-  lane : ℕ → Bool
-  lane = laneTest goal keys timed
-
   -- what the part gives
   part-found : f ≡ foundOf (sweep (laneTest goal keys timed) s (min (s + n) end - s))
   part-found =

@@ -13,7 +13,7 @@ use Rattle.window.specs.declared.Size.{Size}
 use Rattle.window.specs.declared.Step.{Step}
 use Rattle.window.specs.declared.Track.{Track}
 use Rattle.window.specs.declared.Outcome.{Outcome}
-use Rattle.window.specs.declared.Outcome.the-variants.{Accepted, Used, Wrong}
+use Rattle.window.specs.declared.Outcome.the-variants.{Accepted, Wrong}
 use Rattle.window.specs.declared.search.Found.{Found}
 use Rattle.window.specs.declared.search.Found.the-variants.{At, Nowhere}
 use Rattle.window.specs.Window.{timeToken, stepAt, farthest, timeWidth, candidate, beyond, Sound}
@@ -101,12 +101,6 @@ module _ (k : Track) (clock : ℕ) (size : Size) (key challenge presented follow
         by-found : (x : Found) → judge (tooFar k clock) Nowhere x ≡ usedOrWrong x
         by-found (At s) = refl
         by-found Nowhere = refl
-
-    pub check-used : {s : Step} → g ≡ At s → Used ≡ checkOf k clock size key challenge presented following
-    check-used j = sym (judged-used ∙ ap (judge (tooFar k clock) Nowhere) j)
-
-    pub check-wrong : g ≡ Nowhere → Wrong ≡ checkOf k clock size key challenge presented following
-    check-wrong j = sym (judged-used ∙ ap (judge (tooFar k clock) Nowhere) j)
 
 -- ---- a digit count not the token's is wrong, and nothing need be searched
 

@@ -1,7 +1,6 @@
 use Rattle.otp.specs.StepCutsLaws.{three-cuts, lane-cut}
 use Rattle.otp.specs.ChainLaws.{prepared}
 use Prim.Native.Nat.{_+_}
-use native.Mathlib.Omega.{arith}
 use borrow.Author.Needs.{needs}
 use Rattle.otp.proofs.cuts.first_cuts.Statement.{statement}
 use Rattle.otp.proofs.cuts.first_cuts.Tie as tie

@@ -1,6 +1,5 @@
 use Rattle.otp.specs.StepCutsLaws.{five-cuts, lane-cut}
 use Prim.Native.Nat.{_+_}
-use native.Mathlib.Omega.{arith}
 use borrow.Author.Needs.{needs}
 use Rattle.otp.proofs.cuts.next_cuts.Statement.{statement}
 use Rattle.otp.proofs.cuts.next_cuts.Tie as tie
