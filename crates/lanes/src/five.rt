@@ -1,12 +1,12 @@
 // Five blocks under round keys that are stored.
-use crate::boxes::boxes;
-use crate::round::round;
 use sm4::Quad;
+use sm4::round::round;
+use sm4::table::sbox;
 ghost use mathlib.Core.Path.{_≡_};
 ghost use Prim.Native.Nat.{_+_, _≤_};
 ghost use lib.ListN.{length, drop};
+ghost use Rattle.sm4.specs.Sbox.{sbox};
 ghost use Rattle.sm4.specs.Sm4.{linear, steps};
-ghost use Rattle.lanes.specs.Boxes.{boxes};
 
 // Five blocks, or their states X_i to X_i+3.
 pub struct Five {
@@ -18,8 +18,8 @@ pub struct Five {
 }
 
 // Four rounds of each, with the round keys from i on.
-fn four_rounds(table: &[u32], keys: &[u32], s: Five, i: usize) -> Five
-    requires { ⌜ now table ≡ boxes ⌝ }
+fn four_rounds(table: &[u8], keys: &[u32], s: Five, i: usize) -> Five
+    requires { ⌜ now table ≡ sbox ⌝ }
     requires { ⌜ i + 4 ≤ length (now keys) ⌝ }
     ensures { λ r. ⌜ r .first ≡ steps linear (drop i (now (keys .entry))) 4 (s .first) ⌝ }
     ensures { λ r. ⌜ r .second ≡ steps linear (drop i (now (keys .entry))) 4 (s .second) ⌝ }
@@ -104,7 +104,7 @@ pub fn five_blocks(keys: &[u32], blocks: Five) -> Five
     ensures { λ r. ⌜ r .fourth ≡ steps linear (now (keys .entry)) 32 (blocks .fourth) ⌝ }
     ensures { λ r. ⌜ r .fifth ≡ steps linear (now (keys .entry)) 32 (blocks .fifth) ⌝ }
 {
-    let table = boxes();
+    let table = sbox();
     let mut s = blocks;
     let mut i = 0;
     while i < 32 {

@@ -1,8 +1,6 @@
 // Several SM4 blocks under one key side by side: a round waits for the one before it, and the rounds of other blocks fill the wait.
 // For the proved layers above: they give the lengths that these functions require.
-mod boxes;
 mod five;
-mod round;
 mod three;
 
 pub use five::Five;

@@ -1,8 +1,7 @@
 // Three blocks under a fresh key: the key schedule goes along, and each round key is used as soon as it is made.
-use crate::boxes::boxes;
-use crate::round::round;
 use sm4::Quad;
 use sm4::round::key_round;
+use sm4::round::round;
 use sm4::round::words_of;
 use sm4::schedule::masked;
 use sm4::sides::put_keys;
@@ -14,7 +13,6 @@ ghost use lib.ListN.{length, drop};
 ghost use Rattle.sm4.specs.Sbox.{sbox};
 ghost use Rattle.sm4.specs.Sm4.{linear, steps, cks, keysFrom, roundKeys};
 ghost use Rattle.sm4.specs.SidesLaws.{sideSteps};
-ghost use Rattle.lanes.specs.Boxes.{boxes};
 ghost use Rattle.lanes.specs.LanesLaws.{side};
 
 // Three blocks, or their states.
@@ -33,9 +31,8 @@ pub struct Keyed {
 }
 
 // Four steps of the key schedule, each followed by a round of each block with the key that it gives.
-fn four_steps(table: &[u32], bytes: &[u8], ck: &[u32], s: Keyed, i: usize) -> Keyed
-    requires { ⌜ now table ≡ boxes ⌝ }
-    requires { ⌜ now bytes ≡ sbox ⌝ }
+fn four_steps(table: &[u8], ck: &[u32], s: Keyed, i: usize) -> Keyed
+    requires { ⌜ now table ≡ sbox ⌝ }
     requires { ⌜ i + 4 ≤ length (now ck) ⌝ }
     ensures { λ r. ⌜ side (r .key) (r .first) ≡ sideSteps (drop i (now (ck .entry))) 4 (side (s .key) (s .first)) ⌝ }
     ensures { λ r. ⌜ side (r .key) (r .second) ≡ sideSteps (drop i (now (ck .entry))) 4 (side (s .key) (s .second)) ⌝ }
@@ -49,19 +46,19 @@ fn four_steps(table: &[u32], bytes: &[u8], ck: &[u32], s: Keyed, i: usize) -> Ke
     let cb = ck[i + 1];
     let cc = ck[i + 2];
     let cd = ck[i + 3];
-    let ka = key_round(bytes, k.a, k.b, k.c, k.d, ca);
+    let ka = key_round(table, k.a, k.b, k.c, k.d, ca);
     let pa = round(table, p.a, p.b, p.c, p.d, ka);
     let qa = round(table, q.a, q.b, q.c, q.d, ka);
     let ua = round(table, u.a, u.b, u.c, u.d, ka);
-    let kb = key_round(bytes, k.b, k.c, k.d, ka, cb);
+    let kb = key_round(table, k.b, k.c, k.d, ka, cb);
     let pb = round(table, p.b, p.c, p.d, pa, kb);
     let qb = round(table, q.b, q.c, q.d, qa, kb);
     let ub = round(table, u.b, u.c, u.d, ua, kb);
-    let kc = key_round(bytes, k.c, k.d, ka, kb, cc);
+    let kc = key_round(table, k.c, k.d, ka, kb, cc);
     let pc = round(table, p.c, p.d, pa, pb, kc);
     let qc = round(table, q.c, q.d, qa, qb, kc);
     let uc = round(table, u.c, u.d, ua, ub, kc);
-    let kd = key_round(bytes, k.d, ka, kb, kc, cd);
+    let kd = key_round(table, k.d, ka, kb, kc, cd);
     let pd = round(table, p.d, pa, pb, pc, kd);
     let qd = round(table, q.d, qa, qb, qc, kd);
     let ud = round(table, u.d, ua, ub, uc, kd);
@@ -98,9 +95,8 @@ fn four_steps(table: &[u32], bytes: &[u8], ck: &[u32], s: Keyed, i: usize) -> Ke
 }
 
 // All 32. The round keys are left in keys.
-fn all_steps(table: &[u32], bytes: &[u8], ck: &[u32], start: Keyed, keys: &mut [u32]) -> Keyed
-    requires { ⌜ now table ≡ boxes ⌝ }
-    requires { ⌜ now bytes ≡ sbox ⌝ }
+fn all_steps(table: &[u8], ck: &[u32], start: Keyed, keys: &mut [u32]) -> Keyed
+    requires { ⌜ now table ≡ sbox ⌝ }
     requires { ⌜ now ck ≡ cks ⌝ }
     requires { ⌜ length (now keys) ≡ 32 ⌝ }
     ensures { λ r. ⌜ side (r .key) (r .first) ≡ sideSteps cks 32 (side (start .key) (start .first)) ⌝ }
@@ -111,7 +107,7 @@ fn all_steps(table: &[u32], bytes: &[u8], ck: &[u32], start: Keyed, keys: &mut [
     let mut s = start;
     let mut i = 0;
     while i < 32 {
-        s = four_steps(table, bytes, ck, s, i);
+        s = four_steps(table, ck, s, i);
         put_keys(keys, i, s.key);
         i += 4;
     }
@@ -127,8 +123,7 @@ pub fn first_three(key: &[u8], blocks: Three, keys: &mut [u32]) -> Three
     ensures { λ r. ⌜ r .third ≡ steps linear (roundKeys (now (key .entry))) 32 (blocks .third) ⌝ }
     ensures { λ _. ⌜ now (keys .exit) ≡ roundKeys (now (key .entry)) ⌝ }
 {
-    let table = boxes();
-    let bytes = sbox();
+    let table = sbox();
     let ck = constants();
     let a = blocks.first;
     let b = blocks.second;
@@ -139,7 +134,7 @@ pub fn first_three(key: &[u8], blocks: Three, keys: &mut [u32]) -> Three
         second: b,
         third: c,
     };
-    let end = all_steps(&table, &bytes, &ck, start, keys);
+    let end = all_steps(&table, &ck, start, keys);
     let first = end.first;
     let second = end.second;
     let third = end.third;

@@ -66,7 +66,7 @@ fn linear_key(b: u32) -> u32
 }
 
 // The round function F (6.1).
-pub(crate) fn round(table: &[u8], a: u32, b: u32, c: u32, d: u32, key: u32) -> u32
+pub fn round(table: &[u8], a: u32, b: u32, c: u32, d: u32, key: u32) -> u32
     requires { ⌜ now table ≡ sbox ⌝ }
     ensures { λ r. ⌜ r ≡ round linear a b c d key ⌝ }
 {

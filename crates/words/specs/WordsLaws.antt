@@ -5,7 +5,7 @@ use mathlib.Core.Logic.{_⊎_, inl, inr, ⊎-elim}
 use native.Mathlib.Nat.{mod-lt, mul-div-cancel, mul-mod-left, add-zero, zero-lt-suc, sub-add-cancel, div-add-mod', pow-suc}
 use native.Mathlib.Omega.{arith}
 use lib.Arith.{lt-one, digits-lt, digits-mod, mod-mul, bin-ind}
-use lib.Bits.{bitAnd, bitOr, bitXor, differ, and-shr, and-mod, or-shr, or-mod, xor-mod, or-shifted, xor-block, xor-step, xor-shr, xor-self, xor-zero-r}
+use lib.Bits.{bitAnd, bitOr, bitXor, differ, and-shr, and-mod, or-shr, or-mod, xor-mod, or-shifted, xor-step, xor-shr, xor-self, xor-zero-r}
 use lib.Pow.{pow-pos, pow-add, shr-lt}
 use Rattle.words.specs.Words.{_⋘_}
 
@@ -31,13 +31,6 @@ module _ (x n : ℕ) (word : x < 2 ^ 32) (within : n ≤ 32) where
       (subst (λ (m : ℕ). x % 2 ^ (32 - n) * 2 ^ n + x / 2 ^ (32 - n) < m)
       (sym (pow-add 2 (32 - n) n) ∙ ap (λ (m : ℕ). 2 ^ m) (sub-add-cancel within))
       (digits-lt (mod-lt x (pow-pos (32 - n))) shr-below))
-
--- rotation and exclusive or may change places
-pub rotated-xor : (x y n : ℕ) → x < 2 ^ 32 → y < 2 ^ 32 → n ≤ 32 → bitXor x y ⋘ n ≡ bitXor (x ⋘ n) (y ⋘ n)
-unfolding _⋘_
-rotated-xor x y n h k l =
-    rw (shl-keeps x n l, shl-keeps y n l, shl-keeps (bitXor x y) n l, xor-mod x y (32 - n), xor-shr x y (32 - n))
-    (sym (xor-block n (x % 2 ^ (32 - n)) (y % 2 ^ (32 - n)) (x / 2 ^ (32 - n)) (y / 2 ^ (32 - n)) (shr-below x n h l) (shr-below y n k l)))
 
 -- ---- exclusive or
 

@@ -13,8 +13,8 @@ Inv-loop keys table s₀ i₀ s i = (i ≤ 32) × ((i % 4 ≡ 0) × ((s .first �
 abbrev μ-loop : tie.MeasureT-loop
 μ-loop keys table s₀ i₀ s i = 32 - i
 
-boxes-requires : tie.Need-boxes-requires Inv-loop μ-loop
-boxes-requires c κs = search needs
+sbox-requires : tie.Need-sbox-requires Inv-loop μ-loop
+sbox-requires c κs = search needs
 
 loop-holds : tie.Need-loop-holds Inv-loop μ-loop
 unfolding steps
@@ -24,7 +24,7 @@ slice-aggregate-four-rounds : tie.Need-slice-aggregate-four-rounds Inv-loop μ-l
 slice-aggregate-four-rounds c = search needs
 
 four-rounds-requires : tie.Need-four-rounds-requires Inv-loop μ-loop
-four-rounds-requires c κs = (c .before .before .before .boxes .ensures, omega (arith, c .before .before .before .before .before .pre))
+four-rounds-requires c κs = (c .before .before .before .sbox .ensures, omega (arith, c .before .before .before .before .before .pre))
 
 add-i : tie.Need-add-i Inv-loop μ-loop
 add-i c = search needs
@@ -44,7 +44,7 @@ five-blocks-spec =
     (tie.spec
     Inv-loop
     μ-loop
-    boxes-requires
+    sbox-requires
     loop-holds
     slice-aggregate-four-rounds
     four-rounds-requires

@@ -4,9 +4,6 @@ use borrow.Author.Needs.{needs}
 use Rattle.lanes.proofs.three.first_three.Statement.{statement}
 use Rattle.lanes.proofs.three.first_three.Tie as tie
 
-boxes-requires : tie.Need-boxes-requires
-boxes-requires c κs = search needs
-
 sbox-requires : tie.Need-sbox-requires
 sbox-requires c κs = search needs
 
@@ -25,9 +22,6 @@ slice-aggregate-all-steps c = search needs
 slice-aggregate-all-steps-2 : tie.Need-slice-aggregate-all-steps-2
 slice-aggregate-all-steps-2 c = search needs
 
-slice-aggregate-all-steps-3 : tie.Need-slice-aggregate-all-steps-3
-slice-aggregate-all-steps-3 c = search needs
-
 all-steps-requires : tie.Need-all-steps-requires
 all-steps-requires c κs = search needs
 
@@ -35,20 +29,18 @@ same-length : tie.Need-same-length
 same-length c = search needs
 
 returns : tie.Need-returns
-returns c = (lane-state (c .before .before .before .before .before .before .before .before .before .before .before .before .before .before .before .before .before .before .before .before .args .key .now) (c .before .before .before .before .before .before .before .before .before .before .before .before .before .before .before .before .before .before .before .before .args .blocks .first) (c .before .before .before .before .before .before .before .before .before .before .before .words-of .ensures) (c .before .before .before .before .before .before .before .before .before .before .masked .ensures) (c .before .before .before .before .before .all-steps .ensures .0), (lane-state (c .before .before .before .before .before .before .before .before .before .before .before .before .before .before .before .before .before .before .before .before .args .key .now) (c .before .before .before .before .before .before .before .before .before .before .before .before .before .before .before .before .before .before .before .before .args .blocks .second) (c .before .before .before .before .before .before .before .before .before .before .before .words-of .ensures) (c .before .before .before .before .before .before .before .before .before .before .masked .ensures) (c .before .before .before .before .before .all-steps .ensures .1 .0), (lane-state (c .before .before .before .before .before .before .before .before .before .before .before .before .before .before .before .before .before .before .before .before .args .key .now) (c .before .before .before .before .before .before .before .before .before .before .before .before .before .before .before .before .before .before .before .before .args .blocks .third) (c .before .before .before .before .before .before .before .before .before .before .before .words-of .ensures) (c .before .before .before .before .before .before .before .before .before .before .masked .ensures) (c .before .before .before .before .before .all-steps .ensures .1 .1 .0), sides-keys (c .before .before .before .before .before .before .before .before .before .before .before .before .before .before .before .before .before .before .before .before .args .key .now) (c .before .before .before .before .before .before .before .before .before .before .before .words-of .ensures) (c .before .before .before .before .before .before .before .before .before .before .masked .ensures) (c .before .before .before .before .before .all-steps .ensures .1 .1 .1))))
+returns c = (lane-state (c .before .before .before .before .before .before .before .before .before .before .before .before .before .before .before .before .before .before .args .key .now) (c .before .before .before .before .before .before .before .before .before .before .before .before .before .before .before .before .before .before .args .blocks .first) (c .before .before .before .before .before .before .before .before .before .before .words-of .ensures) (c .before .before .before .before .before .before .before .before .before .masked .ensures) (c .before .before .before .before .before .all-steps .ensures .0), (lane-state (c .before .before .before .before .before .before .before .before .before .before .before .before .before .before .before .before .before .before .args .key .now) (c .before .before .before .before .before .before .before .before .before .before .before .before .before .before .before .before .before .before .args .blocks .second) (c .before .before .before .before .before .before .before .before .before .before .words-of .ensures) (c .before .before .before .before .before .before .before .before .before .masked .ensures) (c .before .before .before .before .before .all-steps .ensures .1 .0), (lane-state (c .before .before .before .before .before .before .before .before .before .before .before .before .before .before .before .before .before .before .args .key .now) (c .before .before .before .before .before .before .before .before .before .before .before .before .before .before .before .before .before .before .args .blocks .third) (c .before .before .before .before .before .before .before .before .before .before .words-of .ensures) (c .before .before .before .before .before .before .before .before .before .masked .ensures) (c .before .before .before .before .before .all-steps .ensures .1 .1 .0), sides-keys (c .before .before .before .before .before .before .before .before .before .before .before .before .before .before .before .before .before .before .args .key .now) (c .before .before .before .before .before .before .before .before .before .before .words-of .ensures) (c .before .before .before .before .before .before .before .before .before .masked .ensures) (c .before .before .before .before .before .all-steps .ensures .1 .1 .1))))
 
 pub first-three-spec : {M : Type 1} → statement M
 first-three-spec =
     tie.close
     (tie.spec
-    boxes-requires
     sbox-requires
     constants-requires
     words-of-requires
     masked-requires
     slice-aggregate-all-steps
     slice-aggregate-all-steps-2
-    slice-aggregate-all-steps-3
     all-steps-requires
     same-length
     returns)

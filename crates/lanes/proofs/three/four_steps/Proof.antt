@@ -38,55 +38,55 @@ shared-slice-read-cd : tie.Need-shared-slice-read-cd
 shared-slice-read-cd c = search needs
 
 key-round-requires : tie.Need-key-round-requires
-key-round-requires c κs = c .before .before .before .before .before .before .before .before .before .before .before .pre .1 .0
+key-round-requires c κs = c .before .before .before .before .before .before .before .before .before .before .pre .0
 
 round-requires : tie.Need-round-requires
-round-requires c κs = c .before .before .before .before .before .before .before .before .before .before .before .before .pre .0
+round-requires c κs = c .before .before .before .before .before .before .before .before .before .before .before .pre .0
 
 round-requires-2 : tie.Need-round-requires-2
-round-requires-2 c κs = c .before .before .before .before .before .before .before .before .before .before .before .before .before .pre .0
+round-requires-2 c κs = c .before .before .before .before .before .before .before .before .before .before .before .before .pre .0
 
 round-requires-3 : tie.Need-round-requires-3
-round-requires-3 c κs = c .before .before .before .before .before .before .before .before .before .before .before .before .before .before .pre .0
+round-requires-3 c κs = c .before .before .before .before .before .before .before .before .before .before .before .before .before .pre .0
 
 key-round-requires-2 : tie.Need-key-round-requires-2
-key-round-requires-2 c κs = c .before .before .before .before .before .before .before .before .before .before .before .before .before .before .before .pre .1 .0
+key-round-requires-2 c κs = c .before .before .before .before .before .before .before .before .before .before .before .before .before .before .pre .0
 
 round-requires-4 : tie.Need-round-requires-4
-round-requires-4 c κs = c .before .before .before .before .before .before .before .before .before .before .before .before .before .before .before .before .pre .0
+round-requires-4 c κs = c .before .before .before .before .before .before .before .before .before .before .before .before .before .before .before .pre .0
 
 round-requires-5 : tie.Need-round-requires-5
-round-requires-5 c κs = c .before .before .before .before .before .before .before .before .before .before .before .before .before .before .before .before .before .pre .0
+round-requires-5 c κs = c .before .before .before .before .before .before .before .before .before .before .before .before .before .before .before .before .pre .0
 
 round-requires-6 : tie.Need-round-requires-6
-round-requires-6 c κs = c .before .before .before .before .before .before .before .before .before .before .before .before .before .before .before .before .before .before .pre .0
+round-requires-6 c κs = c .before .before .before .before .before .before .before .before .before .before .before .before .before .before .before .before .before .pre .0
 
 key-round-requires-3 : tie.Need-key-round-requires-3
-key-round-requires-3 c κs = c .before .before .before .before .before .before .before .before .before .before .before .before .before .before .before .before .before .before .before .pre .1 .0
+key-round-requires-3 c κs = c .before .before .before .before .before .before .before .before .before .before .before .before .before .before .before .before .before .before .pre .0
 
 round-requires-7 : tie.Need-round-requires-7
-round-requires-7 c κs = c .before .before .before .before .before .before .before .before .before .before .before .before .before .before .before .before .before .before .before .before .pre .0
+round-requires-7 c κs = c .before .before .before .before .before .before .before .before .before .before .before .before .before .before .before .before .before .before .before .pre .0
 
 round-requires-8 : tie.Need-round-requires-8
-round-requires-8 c κs = c .before .before .before .before .before .before .before .before .before .before .before .before .before .before .before .before .before .before .before .before .before .pre .0
+round-requires-8 c κs = c .before .before .before .before .before .before .before .before .before .before .before .before .before .before .before .before .before .before .before .before .pre .0
 
 round-requires-9 : tie.Need-round-requires-9
-round-requires-9 c κs = c .before .before .before .before .before .before .before .before .before .before .before .before .before .before .before .before .before .before .before .before .before .before .pre .0
+round-requires-9 c κs = c .before .before .before .before .before .before .before .before .before .before .before .before .before .before .before .before .before .before .before .before .before .pre .0
 
 key-round-requires-4 : tie.Need-key-round-requires-4
-key-round-requires-4 c κs = c .before .before .before .before .before .before .before .before .before .before .before .before .before .before .before .before .before .before .before .before .before .before .before .pre .1 .0
+key-round-requires-4 c κs = c .before .before .before .before .before .before .before .before .before .before .before .before .before .before .before .before .before .before .before .before .before .before .pre .0
 
 round-requires-10 : tie.Need-round-requires-10
-round-requires-10 c κs = c .before .before .before .before .before .before .before .before .before .before .before .before .before .before .before .before .before .before .before .before .before .before .before .before .pre .0
+round-requires-10 c κs = c .before .before .before .before .before .before .before .before .before .before .before .before .before .before .before .before .before .before .before .before .before .before .before .pre .0
 
 round-requires-11 : tie.Need-round-requires-11
-round-requires-11 c κs = c .before .before .before .before .before .before .before .before .before .before .before .before .before .before .before .before .before .before .before .before .before .before .before .before .before .pre .0
+round-requires-11 c κs = c .before .before .before .before .before .before .before .before .before .before .before .before .before .before .before .before .before .before .before .before .before .before .before .before .pre .0
 
 round-requires-12 : tie.Need-round-requires-12
-round-requires-12 c κs = c .before .before .before .before .before .before .before .before .before .before .before .before .before .before .before .before .before .before .before .before .before .before .before .before .before .before .pre .0
+round-requires-12 c κs = c .before .before .before .before .before .before .before .before .before .before .before .before .before .before .before .before .before .before .before .before .before .before .before .before .before .pre .0
 
 returns : tie.Need-returns
-returns c = (four-sides (c .before .before .before .before .before .before .before .before .before .before .before .before .before .before .before .before .before .before .before .before .before .before .before .before .before .before .before .args .ck .now) (c .before .before .before .before .before .before .before .before .before .before .before .before .before .before .before .before .before .before .before .before .before .before .before .before .before .before .before .args .i) (side (c .before .before .before .before .before .before .before .before .before .before .before .before .before .before .before .before .before .before .before .before .before .before .before .before .before .before .before .args .s .key) (c .before .before .before .before .before .before .before .before .before .before .before .before .before .before .before .before .before .before .before .before .before .before .before .before .before .before .before .args .s .first)) (c .before .before .before .before .before .before .before .before .before .before .before .before .before .before .before .key-round .ensures) (c .before .before .before .before .before .before .before .before .before .before .before .before .before .before .round .ensures) (c .before .before .before .before .before .before .before .before .before .before .before .key-round2 .ensures) (c .before .before .before .before .before .before .before .before .before .before .round4 .ensures) (c .before .before .before .before .before .before .before .key-round3 .ensures) (c .before .before .before .before .before .before .round7 .ensures) (c .before .before .before .key-round4 .ensures) (c .before .before .round10 .ensures), (four-sides (c .before .before .before .before .before .before .before .before .before .before .before .before .before .before .before .before .before .before .before .before .before .before .before .before .before .before .before .args .ck .now) (c .before .before .before .before .before .before .before .before .before .before .before .before .before .before .before .before .before .before .before .before .before .before .before .before .before .before .before .args .i) (side (c .before .before .before .before .before .before .before .before .before .before .before .before .before .before .before .before .before .before .before .before .before .before .before .before .before .before .before .args .s .key) (c .before .before .before .before .before .before .before .before .before .before .before .before .before .before .before .before .before .before .before .before .before .before .before .before .before .before .before .args .s .second)) (c .before .before .before .before .before .before .before .before .before .before .before .before .before .before .before .key-round .ensures) (c .before .before .before .before .before .before .before .before .before .before .before .before .before .round2 .ensures) (c .before .before .before .before .before .before .before .before .before .before .before .key-round2 .ensures) (c .before .before .before .before .before .before .before .before .before .round5 .ensures) (c .before .before .before .before .before .before .before .key-round3 .ensures) (c .before .before .before .before .before .round8 .ensures) (c .before .before .before .key-round4 .ensures) (c .before .round11 .ensures), four-sides (c .before .before .before .before .before .before .before .before .before .before .before .before .before .before .before .before .before .before .before .before .before .before .before .before .before .before .before .args .ck .now) (c .before .before .before .before .before .before .before .before .before .before .before .before .before .before .before .before .before .before .before .before .before .before .before .before .before .before .before .args .i) (side (c .before .before .before .before .before .before .before .before .before .before .before .before .before .before .before .before .before .before .before .before .before .before .before .before .before .before .before .args .s .key) (c .before .before .before .before .before .before .before .before .before .before .before .before .before .before .before .before .before .before .before .before .before .before .before .before .before .before .before .args .s .third)) (c .before .before .before .before .before .before .before .before .before .before .before .before .before .before .before .key-round .ensures) (c .before .before .before .before .before .before .before .before .before .before .before .before .round3 .ensures) (c .before .before .before .before .before .before .before .before .before .before .before .key-round2 .ensures) (c .before .before .before .before .before .before .before .before .round6 .ensures) (c .before .before .before .before .before .before .before .key-round3 .ensures) (c .before .before .before .before .round9 .ensures) (c .before .before .before .key-round4 .ensures) (c .round12 .ensures)))
+returns c = (four-sides (c .before .before .before .before .before .before .before .before .before .before .before .before .before .before .before .before .before .before .before .before .before .before .before .before .before .before .args .ck .now) (c .before .before .before .before .before .before .before .before .before .before .before .before .before .before .before .before .before .before .before .before .before .before .before .before .before .before .args .i) (side (c .before .before .before .before .before .before .before .before .before .before .before .before .before .before .before .before .before .before .before .before .before .before .before .before .before .before .args .s .key) (c .before .before .before .before .before .before .before .before .before .before .before .before .before .before .before .before .before .before .before .before .before .before .before .before .before .before .args .s .first)) (c .before .before .before .before .before .before .before .before .before .before .before .before .before .before .before .key-round .ensures) (c .before .before .before .before .before .before .before .before .before .before .before .before .before .before .round .ensures) (c .before .before .before .before .before .before .before .before .before .before .before .key-round2 .ensures) (c .before .before .before .before .before .before .before .before .before .before .round4 .ensures) (c .before .before .before .before .before .before .before .key-round3 .ensures) (c .before .before .before .before .before .before .round7 .ensures) (c .before .before .before .key-round4 .ensures) (c .before .before .round10 .ensures), (four-sides (c .before .before .before .before .before .before .before .before .before .before .before .before .before .before .before .before .before .before .before .before .before .before .before .before .before .before .args .ck .now) (c .before .before .before .before .before .before .before .before .before .before .before .before .before .before .before .before .before .before .before .before .before .before .before .before .before .before .args .i) (side (c .before .before .before .before .before .before .before .before .before .before .before .before .before .before .before .before .before .before .before .before .before .before .before .before .before .before .args .s .key) (c .before .before .before .before .before .before .before .before .before .before .before .before .before .before .before .before .before .before .before .before .before .before .before .before .before .before .args .s .second)) (c .before .before .before .before .before .before .before .before .before .before .before .before .before .before .before .key-round .ensures) (c .before .before .before .before .before .before .before .before .before .before .before .before .before .round2 .ensures) (c .before .before .before .before .before .before .before .before .before .before .before .key-round2 .ensures) (c .before .before .before .before .before .before .before .before .before .round5 .ensures) (c .before .before .before .before .before .before .before .key-round3 .ensures) (c .before .before .before .before .before .round8 .ensures) (c .before .before .before .key-round4 .ensures) (c .before .round11 .ensures), four-sides (c .before .before .before .before .before .before .before .before .before .before .before .before .before .before .before .before .before .before .before .before .before .before .before .before .before .before .args .ck .now) (c .before .before .before .before .before .before .before .before .before .before .before .before .before .before .before .before .before .before .before .before .before .before .before .before .before .before .args .i) (side (c .before .before .before .before .before .before .before .before .before .before .before .before .before .before .before .before .before .before .before .before .before .before .before .before .before .before .args .s .key) (c .before .before .before .before .before .before .before .before .before .before .before .before .before .before .before .before .before .before .before .before .before .before .before .before .before .before .args .s .third)) (c .before .before .before .before .before .before .before .before .before .before .before .before .before .before .before .key-round .ensures) (c .before .before .before .before .before .before .before .before .before .before .before .before .round3 .ensures) (c .before .before .before .before .before .before .before .before .before .before .before .key-round2 .ensures) (c .before .before .before .before .before .before .before .before .round6 .ensures) (c .before .before .before .before .before .before .before .key-round3 .ensures) (c .before .before .before .before .round9 .ensures) (c .before .before .before .key-round4 .ensures) (c .round12 .ensures)))
 
 pub four-steps-spec : {M : Type 1} → statement M
 four-steps-spec =
