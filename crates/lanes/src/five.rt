@@ -1,4 +1,5 @@
 // Five blocks under round keys that are stored.
+use crate::quad::quad;
 use sm4::Quad;
 use sm4::round::round;
 use sm4::table::sbox;
@@ -56,36 +57,11 @@ fn four_rounds(table: &[u8], keys: &[u32], s: Five, i: usize) -> Five
     let ud = round(table, u.d, ua, ub, uc, kd);
     let vd = round(table, v.d, va, vb, vc, kd);
     let wd = round(table, w.d, wa, wb, wc, kd);
-    let first = Quad {
-        a: pa,
-        b: pb,
-        c: pc,
-        d: pd,
-    };
-    let second = Quad {
-        a: qa,
-        b: qb,
-        c: qc,
-        d: qd,
-    };
-    let third = Quad {
-        a: ua,
-        b: ub,
-        c: uc,
-        d: ud,
-    };
-    let fourth = Quad {
-        a: va,
-        b: vb,
-        c: vc,
-        d: vd,
-    };
-    let fifth = Quad {
-        a: wa,
-        b: wb,
-        c: wc,
-        d: wd,
-    };
+    let first = quad(pa, pb, pc, pd);
+    let second = quad(qa, qb, qc, qd);
+    let third = quad(ua, ub, uc, ud);
+    let fourth = quad(va, vb, vc, vd);
+    let fifth = quad(wa, wb, wc, wd);
     Five {
         first,
         second,

@@ -1,4 +1,5 @@
 // Three blocks under a fresh key: the key schedule goes along, and each round key is used as soon as it is made.
+use crate::quad::quad;
 use sm4::Quad;
 use sm4::round::key_round;
 use sm4::round::round;
@@ -62,30 +63,10 @@ fn four_steps(table: &[u8], ck: &[u32], s: Keyed, i: usize) -> Keyed
     let pd = round(table, p.d, pa, pb, pc, kd);
     let qd = round(table, q.d, qa, qb, qc, kd);
     let ud = round(table, u.d, ua, ub, uc, kd);
-    let key = Quad {
-        a: ka,
-        b: kb,
-        c: kc,
-        d: kd,
-    };
-    let first = Quad {
-        a: pa,
-        b: pb,
-        c: pc,
-        d: pd,
-    };
-    let second = Quad {
-        a: qa,
-        b: qb,
-        c: qc,
-        d: qd,
-    };
-    let third = Quad {
-        a: ua,
-        b: ub,
-        c: uc,
-        d: ud,
-    };
+    let key = quad(ka, kb, kc, kd);
+    let first = quad(pa, pb, pc, pd);
+    let second = quad(qa, qb, qc, qd);
+    let third = quad(ua, ub, uc, ud);
     Keyed {
         key,
         first,

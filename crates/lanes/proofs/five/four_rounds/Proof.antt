@@ -1,3 +1,4 @@
+use mathlib.Core.Path.{_∙_}
 use Rattle.sm4.specs.ReturnLaws.{four-steps}
 use Rattle.sm4.specs.Sm4.{linear}
 use borrow.Author.Needs.{needs}
@@ -97,8 +98,23 @@ round-requires-19 c κs = c .before .before .before .before .before .before .bef
 round-requires-20 : tie.Need-round-requires-20
 round-requires-20 c κs = c .before .before .before .before .before .before .before .before .before .before .before .before .before .before .before .before .before .before .before .before .before .before .before .before .before .before .before .before .before .before .pre .0
 
+quad-requires : tie.Need-quad-requires
+quad-requires c κs = search needs
+
+quad-requires-2 : tie.Need-quad-requires-2
+quad-requires-2 c κs = search needs
+
+quad-requires-3 : tie.Need-quad-requires-3
+quad-requires-3 c κs = search needs
+
+quad-requires-4 : tie.Need-quad-requires-4
+quad-requires-4 c κs = search needs
+
+quad-requires-5 : tie.Need-quad-requires-5
+quad-requires-5 c κs = search needs
+
 returns : tie.Need-returns
-returns c = (four-steps linear (c .before .before .before .before .before .before .before .before .before .before .before .before .before .before .before .before .before .before .before .before .before .before .before .before .before .before .before .before .before .before .before .args .keys .now) (c .before .before .before .before .before .before .before .before .before .before .before .before .before .before .before .before .before .before .before .before .before .before .before .before .before .before .before .before .before .before .before .args .i) (c .before .before .before .before .before .before .before .before .before .before .before .before .before .before .before .before .before .before .before .before .before .before .before .before .before .before .before .before .before .before .before .args .s .first) (c .before .before .before .before .before .before .before .before .before .before .before .before .before .before .before .before .before .before .before .round .ensures) (c .before .before .before .before .before .before .before .before .before .before .before .before .before .before .round6 .ensures) (c .before .before .before .before .before .before .before .before .before .round11 .ensures) (c .before .before .before .before .round16 .ensures), (four-steps linear (c .before .before .before .before .before .before .before .before .before .before .before .before .before .before .before .before .before .before .before .before .before .before .before .before .before .before .before .before .before .before .before .args .keys .now) (c .before .before .before .before .before .before .before .before .before .before .before .before .before .before .before .before .before .before .before .before .before .before .before .before .before .before .before .before .before .before .before .args .i) (c .before .before .before .before .before .before .before .before .before .before .before .before .before .before .before .before .before .before .before .before .before .before .before .before .before .before .before .before .before .before .before .args .s .second) (c .before .before .before .before .before .before .before .before .before .before .before .before .before .before .before .before .before .before .round2 .ensures) (c .before .before .before .before .before .before .before .before .before .before .before .before .before .round7 .ensures) (c .before .before .before .before .before .before .before .before .round12 .ensures) (c .before .before .before .round17 .ensures), (four-steps linear (c .before .before .before .before .before .before .before .before .before .before .before .before .before .before .before .before .before .before .before .before .before .before .before .before .before .before .before .before .before .before .before .args .keys .now) (c .before .before .before .before .before .before .before .before .before .before .before .before .before .before .before .before .before .before .before .before .before .before .before .before .before .before .before .before .before .before .before .args .i) (c .before .before .before .before .before .before .before .before .before .before .before .before .before .before .before .before .before .before .before .before .before .before .before .before .before .before .before .before .before .before .before .args .s .third) (c .before .before .before .before .before .before .before .before .before .before .before .before .before .before .before .before .before .round3 .ensures) (c .before .before .before .before .before .before .before .before .before .before .before .before .round8 .ensures) (c .before .before .before .before .before .before .before .round13 .ensures) (c .before .before .round18 .ensures), (four-steps linear (c .before .before .before .before .before .before .before .before .before .before .before .before .before .before .before .before .before .before .before .before .before .before .before .before .before .before .before .before .before .before .before .args .keys .now) (c .before .before .before .before .before .before .before .before .before .before .before .before .before .before .before .before .before .before .before .before .before .before .before .before .before .before .before .before .before .before .before .args .i) (c .before .before .before .before .before .before .before .before .before .before .before .before .before .before .before .before .before .before .before .before .before .before .before .before .before .before .before .before .before .before .before .args .s .fourth) (c .before .before .before .before .before .before .before .before .before .before .before .before .before .before .before .before .round4 .ensures) (c .before .before .before .before .before .before .before .before .before .before .before .round9 .ensures) (c .before .before .before .before .before .before .round14 .ensures) (c .before .round19 .ensures), four-steps linear (c .before .before .before .before .before .before .before .before .before .before .before .before .before .before .before .before .before .before .before .before .before .before .before .before .before .before .before .before .before .before .before .args .keys .now) (c .before .before .before .before .before .before .before .before .before .before .before .before .before .before .before .before .before .before .before .before .before .before .before .before .before .before .before .before .before .before .before .args .i) (c .before .before .before .before .before .before .before .before .before .before .before .before .before .before .before .before .before .before .before .before .before .before .before .before .before .before .before .before .before .before .before .args .s .fifth) (c .before .before .before .before .before .before .before .before .before .before .before .before .before .before .before .round5 .ensures) (c .before .before .before .before .before .before .before .before .before .before .round10 .ensures) (c .before .before .before .before .before .round15 .ensures) (c .round20 .ensures)))))
+returns c = (c .before .before .before .before .quad .ensures ∙ four-steps linear (c .before .before .before .before .before .before .before .before .before .before .before .before .before .before .before .before .before .before .before .before .before .before .before .before .before .before .before .before .before .before .before .before .before .before .before .before .args .keys .now) (c .before .before .before .before .before .before .before .before .before .before .before .before .before .before .before .before .before .before .before .before .before .before .before .before .before .before .before .before .before .before .before .before .before .before .before .before .args .i) (c .before .before .before .before .before .before .before .before .before .before .before .before .before .before .before .before .before .before .before .before .before .before .before .before .before .before .before .before .before .before .before .before .before .before .before .before .args .s .first) (c .before .before .before .before .before .before .before .before .before .before .before .before .before .before .before .before .before .before .before .before .before .before .before .before .round .ensures) (c .before .before .before .before .before .before .before .before .before .before .before .before .before .before .before .before .before .before .before .round6 .ensures) (c .before .before .before .before .before .before .before .before .before .before .before .before .before .before .round11 .ensures) (c .before .before .before .before .before .before .before .before .before .round16 .ensures), (c .before .before .before .quad2 .ensures ∙ four-steps linear (c .before .before .before .before .before .before .before .before .before .before .before .before .before .before .before .before .before .before .before .before .before .before .before .before .before .before .before .before .before .before .before .before .before .before .before .before .args .keys .now) (c .before .before .before .before .before .before .before .before .before .before .before .before .before .before .before .before .before .before .before .before .before .before .before .before .before .before .before .before .before .before .before .before .before .before .before .before .args .i) (c .before .before .before .before .before .before .before .before .before .before .before .before .before .before .before .before .before .before .before .before .before .before .before .before .before .before .before .before .before .before .before .before .before .before .before .before .args .s .second) (c .before .before .before .before .before .before .before .before .before .before .before .before .before .before .before .before .before .before .before .before .before .before .before .round2 .ensures) (c .before .before .before .before .before .before .before .before .before .before .before .before .before .before .before .before .before .before .round7 .ensures) (c .before .before .before .before .before .before .before .before .before .before .before .before .before .round12 .ensures) (c .before .before .before .before .before .before .before .before .round17 .ensures), (c .before .before .quad3 .ensures ∙ four-steps linear (c .before .before .before .before .before .before .before .before .before .before .before .before .before .before .before .before .before .before .before .before .before .before .before .before .before .before .before .before .before .before .before .before .before .before .before .before .args .keys .now) (c .before .before .before .before .before .before .before .before .before .before .before .before .before .before .before .before .before .before .before .before .before .before .before .before .before .before .before .before .before .before .before .before .before .before .before .before .args .i) (c .before .before .before .before .before .before .before .before .before .before .before .before .before .before .before .before .before .before .before .before .before .before .before .before .before .before .before .before .before .before .before .before .before .before .before .before .args .s .third) (c .before .before .before .before .before .before .before .before .before .before .before .before .before .before .before .before .before .before .before .before .before .before .round3 .ensures) (c .before .before .before .before .before .before .before .before .before .before .before .before .before .before .before .before .before .round8 .ensures) (c .before .before .before .before .before .before .before .before .before .before .before .before .round13 .ensures) (c .before .before .before .before .before .before .before .round18 .ensures), (c .before .quad4 .ensures ∙ four-steps linear (c .before .before .before .before .before .before .before .before .before .before .before .before .before .before .before .before .before .before .before .before .before .before .before .before .before .before .before .before .before .before .before .before .before .before .before .before .args .keys .now) (c .before .before .before .before .before .before .before .before .before .before .before .before .before .before .before .before .before .before .before .before .before .before .before .before .before .before .before .before .before .before .before .before .before .before .before .before .args .i) (c .before .before .before .before .before .before .before .before .before .before .before .before .before .before .before .before .before .before .before .before .before .before .before .before .before .before .before .before .before .before .before .before .before .before .before .before .args .s .fourth) (c .before .before .before .before .before .before .before .before .before .before .before .before .before .before .before .before .before .before .before .before .before .round4 .ensures) (c .before .before .before .before .before .before .before .before .before .before .before .before .before .before .before .before .round9 .ensures) (c .before .before .before .before .before .before .before .before .before .before .before .round14 .ensures) (c .before .before .before .before .before .before .round19 .ensures), c .quad5 .ensures ∙ four-steps linear (c .before .before .before .before .before .before .before .before .before .before .before .before .before .before .before .before .before .before .before .before .before .before .before .before .before .before .before .before .before .before .before .before .before .before .before .before .args .keys .now) (c .before .before .before .before .before .before .before .before .before .before .before .before .before .before .before .before .before .before .before .before .before .before .before .before .before .before .before .before .before .before .before .before .before .before .before .before .args .i) (c .before .before .before .before .before .before .before .before .before .before .before .before .before .before .before .before .before .before .before .before .before .before .before .before .before .before .before .before .before .before .before .before .before .before .before .before .args .s .fifth) (c .before .before .before .before .before .before .before .before .before .before .before .before .before .before .before .before .before .before .before .before .round5 .ensures) (c .before .before .before .before .before .before .before .before .before .before .before .before .before .before .before .round10 .ensures) (c .before .before .before .before .before .before .before .before .before .before .round15 .ensures) (c .before .before .before .before .before .round20 .ensures)))))
 
 pub four-rounds-spec : {M : Type 1} → statement M
 four-rounds-spec =
@@ -135,4 +151,9 @@ four-rounds-spec =
     round-requires-18
     round-requires-19
     round-requires-20
+    quad-requires
+    quad-requires-2
+    quad-requires-3
+    quad-requires-4
+    quad-requires-5
     returns)

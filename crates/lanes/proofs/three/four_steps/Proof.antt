@@ -1,3 +1,4 @@
+use mathlib.Core.Path.{ap₂, _∙_}
 use Rattle.lanes.specs.LanesLaws.{side}
 use Rattle.sm4.specs.SidesLaws.{four-sides}
 use borrow.Author.Needs.{needs}
@@ -85,8 +86,20 @@ round-requires-11 c κs = c .before .before .before .before .before .before .bef
 round-requires-12 : tie.Need-round-requires-12
 round-requires-12 c κs = c .before .before .before .before .before .before .before .before .before .before .before .before .before .before .before .before .before .before .before .before .before .before .before .before .before .pre .0
 
+quad-requires : tie.Need-quad-requires
+quad-requires c κs = search needs
+
+quad-requires-2 : tie.Need-quad-requires-2
+quad-requires-2 c κs = search needs
+
+quad-requires-3 : tie.Need-quad-requires-3
+quad-requires-3 c κs = search needs
+
+quad-requires-4 : tie.Need-quad-requires-4
+quad-requires-4 c κs = search needs
+
 returns : tie.Need-returns
-returns c = (four-sides (c .before .before .before .before .before .before .before .before .before .before .before .before .before .before .before .before .before .before .before .before .before .before .before .before .before .before .args .ck .now) (c .before .before .before .before .before .before .before .before .before .before .before .before .before .before .before .before .before .before .before .before .before .before .before .before .before .before .args .i) (side (c .before .before .before .before .before .before .before .before .before .before .before .before .before .before .before .before .before .before .before .before .before .before .before .before .before .before .args .s .key) (c .before .before .before .before .before .before .before .before .before .before .before .before .before .before .before .before .before .before .before .before .before .before .before .before .before .before .args .s .first)) (c .before .before .before .before .before .before .before .before .before .before .before .before .before .before .before .key-round .ensures) (c .before .before .before .before .before .before .before .before .before .before .before .before .before .before .round .ensures) (c .before .before .before .before .before .before .before .before .before .before .before .key-round2 .ensures) (c .before .before .before .before .before .before .before .before .before .before .round4 .ensures) (c .before .before .before .before .before .before .before .key-round3 .ensures) (c .before .before .before .before .before .before .round7 .ensures) (c .before .before .before .key-round4 .ensures) (c .before .before .round10 .ensures), (four-sides (c .before .before .before .before .before .before .before .before .before .before .before .before .before .before .before .before .before .before .before .before .before .before .before .before .before .before .args .ck .now) (c .before .before .before .before .before .before .before .before .before .before .before .before .before .before .before .before .before .before .before .before .before .before .before .before .before .before .args .i) (side (c .before .before .before .before .before .before .before .before .before .before .before .before .before .before .before .before .before .before .before .before .before .before .before .before .before .before .args .s .key) (c .before .before .before .before .before .before .before .before .before .before .before .before .before .before .before .before .before .before .before .before .before .before .before .before .before .before .args .s .second)) (c .before .before .before .before .before .before .before .before .before .before .before .before .before .before .before .key-round .ensures) (c .before .before .before .before .before .before .before .before .before .before .before .before .before .round2 .ensures) (c .before .before .before .before .before .before .before .before .before .before .before .key-round2 .ensures) (c .before .before .before .before .before .before .before .before .before .round5 .ensures) (c .before .before .before .before .before .before .before .key-round3 .ensures) (c .before .before .before .before .before .round8 .ensures) (c .before .before .before .key-round4 .ensures) (c .before .round11 .ensures), four-sides (c .before .before .before .before .before .before .before .before .before .before .before .before .before .before .before .before .before .before .before .before .before .before .before .before .before .before .args .ck .now) (c .before .before .before .before .before .before .before .before .before .before .before .before .before .before .before .before .before .before .before .before .before .before .before .before .before .before .args .i) (side (c .before .before .before .before .before .before .before .before .before .before .before .before .before .before .before .before .before .before .before .before .before .before .before .before .before .before .args .s .key) (c .before .before .before .before .before .before .before .before .before .before .before .before .before .before .before .before .before .before .before .before .before .before .before .before .before .before .args .s .third)) (c .before .before .before .before .before .before .before .before .before .before .before .before .before .before .before .key-round .ensures) (c .before .before .before .before .before .before .before .before .before .before .before .before .round3 .ensures) (c .before .before .before .before .before .before .before .before .before .before .before .key-round2 .ensures) (c .before .before .before .before .before .before .before .before .round6 .ensures) (c .before .before .before .before .before .before .before .key-round3 .ensures) (c .before .before .before .before .round9 .ensures) (c .before .before .before .key-round4 .ensures) (c .round12 .ensures)))
+returns c = (ap₂ side (c .before .before .before .quad .ensures) (c .before .before .quad2 .ensures) ∙ four-sides (c .before .before .before .before .before .before .before .before .before .before .before .before .before .before .before .before .before .before .before .before .before .before .before .before .before .before .before .before .before .before .args .ck .now) (c .before .before .before .before .before .before .before .before .before .before .before .before .before .before .before .before .before .before .before .before .before .before .before .before .before .before .before .before .before .before .args .i) (side (c .before .before .before .before .before .before .before .before .before .before .before .before .before .before .before .before .before .before .before .before .before .before .before .before .before .before .before .before .before .before .args .s .key) (c .before .before .before .before .before .before .before .before .before .before .before .before .before .before .before .before .before .before .before .before .before .before .before .before .before .before .before .before .before .before .args .s .first)) (c .before .before .before .before .before .before .before .before .before .before .before .before .before .before .before .before .before .before .before .key-round .ensures) (c .before .before .before .before .before .before .before .before .before .before .before .before .before .before .before .before .before .before .round .ensures) (c .before .before .before .before .before .before .before .before .before .before .before .before .before .before .before .key-round2 .ensures) (c .before .before .before .before .before .before .before .before .before .before .before .before .before .before .round4 .ensures) (c .before .before .before .before .before .before .before .before .before .before .before .key-round3 .ensures) (c .before .before .before .before .before .before .before .before .before .before .round7 .ensures) (c .before .before .before .before .before .before .before .key-round4 .ensures) (c .before .before .before .before .before .before .round10 .ensures), (ap₂ side (c .before .before .before .quad .ensures) (c .before .quad3 .ensures) ∙ four-sides (c .before .before .before .before .before .before .before .before .before .before .before .before .before .before .before .before .before .before .before .before .before .before .before .before .before .before .before .before .before .before .args .ck .now) (c .before .before .before .before .before .before .before .before .before .before .before .before .before .before .before .before .before .before .before .before .before .before .before .before .before .before .before .before .before .before .args .i) (side (c .before .before .before .before .before .before .before .before .before .before .before .before .before .before .before .before .before .before .before .before .before .before .before .before .before .before .before .before .before .before .args .s .key) (c .before .before .before .before .before .before .before .before .before .before .before .before .before .before .before .before .before .before .before .before .before .before .before .before .before .before .before .before .before .before .args .s .second)) (c .before .before .before .before .before .before .before .before .before .before .before .before .before .before .before .before .before .before .before .key-round .ensures) (c .before .before .before .before .before .before .before .before .before .before .before .before .before .before .before .before .before .round2 .ensures) (c .before .before .before .before .before .before .before .before .before .before .before .before .before .before .before .key-round2 .ensures) (c .before .before .before .before .before .before .before .before .before .before .before .before .before .round5 .ensures) (c .before .before .before .before .before .before .before .before .before .before .before .key-round3 .ensures) (c .before .before .before .before .before .before .before .before .before .round8 .ensures) (c .before .before .before .before .before .before .before .key-round4 .ensures) (c .before .before .before .before .before .round11 .ensures), ap₂ side (c .before .before .before .quad .ensures) (c .quad4 .ensures) ∙ four-sides (c .before .before .before .before .before .before .before .before .before .before .before .before .before .before .before .before .before .before .before .before .before .before .before .before .before .before .before .before .before .before .args .ck .now) (c .before .before .before .before .before .before .before .before .before .before .before .before .before .before .before .before .before .before .before .before .before .before .before .before .before .before .before .before .before .before .args .i) (side (c .before .before .before .before .before .before .before .before .before .before .before .before .before .before .before .before .before .before .before .before .before .before .before .before .before .before .before .before .before .before .args .s .key) (c .before .before .before .before .before .before .before .before .before .before .before .before .before .before .before .before .before .before .before .before .before .before .before .before .before .before .before .before .before .before .args .s .third)) (c .before .before .before .before .before .before .before .before .before .before .before .before .before .before .before .before .before .before .before .key-round .ensures) (c .before .before .before .before .before .before .before .before .before .before .before .before .before .before .before .before .round3 .ensures) (c .before .before .before .before .before .before .before .before .before .before .before .before .before .before .before .key-round2 .ensures) (c .before .before .before .before .before .before .before .before .before .before .before .before .round6 .ensures) (c .before .before .before .before .before .before .before .before .before .before .before .key-round3 .ensures) (c .before .before .before .before .before .before .before .before .round9 .ensures) (c .before .before .before .before .before .before .before .key-round4 .ensures) (c .before .before .before .before .round12 .ensures)))
 
 pub four-steps-spec : {M : Type 1} → statement M
 four-steps-spec =
@@ -119,4 +132,8 @@ four-steps-spec =
     round-requires-10
     round-requires-11
     round-requires-12
+    quad-requires
+    quad-requires-2
+    quad-requires-3
+    quad-requires-4
     returns)
