@@ -49,7 +49,7 @@ halves-bytes : (x : ℕ) → beBytes 16 (x % 2 ^ 128) ≡ beBytes 8 (x / 2 ^ 64 
 halves-bytes x = rw (beBytes-mod 16 x) (beBytes-split 8 8 x ∙ rw (← beBytes-mod 8 (x / 2 ^ 64), ← beBytes-mod 8 x))
 
 -- sixteen bytes are four words
-bytes-words : (high low : ℕ) → high < 2 ^ 64 → low < 2 ^ 64
+pub bytes-words : (high low : ℕ) → high < 2 ^ 64 → low < 2 ^ 64
     → wordsOf (beBytes 8 high ++ beBytes 8 low) ≡ record { a = high / 2 ^ 32; b = high % 2 ^ 32; c = low / 2 ^ 32; d = low % 2 ^ 32 }
 unfolding reversed
 bytes-words high low h l =

@@ -3,3 +3,7 @@ pub mod Password
 pub mod PasswordLaws
 pub mod IdLaws
 pub mod ChainLaws
+pub mod StepCuts
+pub mod StepCutsLaws
+pub mod Numbers
+pub mod NumbersLaws

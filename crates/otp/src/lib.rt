@@ -2,7 +2,9 @@
 mod arguments;
 mod chain;
 mod cut;
+pub mod cuts;
 mod id;
+pub mod number;
 mod once;
 pub mod prepared;
 

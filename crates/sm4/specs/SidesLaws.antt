@@ -51,7 +51,7 @@ module _ (cs : List ℕ) (i : ℕ) (s : Sides) {ka a kb b kc c kd d : ℕ}
   four-sides = simp (getD-drop, add-zero) (rw (← k₁, ← k₂, ← k₃, ← k₄, ← x₁, ← x₂, ← x₃, ← x₄))
 
 -- they are the key schedule, and the rounds with its keys
-sides-are : (key : List ℕ) (x : Quad) (n : ℕ) → n ≤ 32
+pub sides-are : (key : List ℕ) (x : Quad) (n : ℕ) → n ≤ 32
     → sideSteps cks n (record { key = masked (wordsOf key); state = x })
     ≡ record { key = steps linearKey cks n (masked (wordsOf key)); state = steps linear (roundKeys key) n x }
 unfolding sideSteps steps

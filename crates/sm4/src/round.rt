@@ -16,7 +16,7 @@ pub struct Quad {
 }
 
 // The four words of 16 bytes.
-pub(crate) fn words_of(bytes: &[u8]) -> Quad
+pub fn words_of(bytes: &[u8]) -> Quad
     requires { ⌜ length (now bytes) ≡ 16 ⌝ }
     ensures { λ r. ⌜ r ≡ wordsOf (now (bytes .entry)) ⌝ }
 {
@@ -66,7 +66,7 @@ fn linear_key(b: u32) -> u32
 }
 
 // The round function F (6.1).
-pub(crate) fn round(table: &[u8], a: u32, b: u32, c: u32, d: u32, key: u32) -> u32
+pub fn round(table: &[u8], a: u32, b: u32, c: u32, d: u32, key: u32) -> u32
     requires { ⌜ now table ≡ sbox ⌝ }
     ensures { λ r. ⌜ r ≡ round linear a b c d key ⌝ }
 {
@@ -74,7 +74,7 @@ pub(crate) fn round(table: &[u8], a: u32, b: u32, c: u32, d: u32, key: u32) -> u
 }
 
 // The same with L', as the key schedule has it (7.3 a)).
-pub(crate) fn key_round(table: &[u8], a: u32, b: u32, c: u32, d: u32, constant: u32) -> u32
+pub fn key_round(table: &[u8], a: u32, b: u32, c: u32, d: u32, constant: u32) -> u32
     requires { ⌜ now table ≡ sbox ⌝ }
     ensures { λ r. ⌜ r ≡ round linearKey a b c d constant ⌝ }
 {

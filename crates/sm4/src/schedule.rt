@@ -17,7 +17,7 @@ pub struct Keys {
 }
 
 // K_0 .. K_3: the words of a key with the system parameters FK (b)).
-pub(crate) fn masked(q: Quad) -> Quad
+pub fn masked(q: Quad) -> Quad
     ensures { λ r. ⌜ r ≡ masked q ⌝ }
 {
     Quad {

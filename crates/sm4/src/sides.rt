@@ -50,7 +50,7 @@ fn four_sides(table: &[u8], ck: &[u32], s: Sides, i: usize) -> Sides
 }
 
 // Stores four round keys from i on.
-fn put_keys(keys: &mut [u32], i: usize, k: Quad)
+pub fn put_keys(keys: &mut [u32], i: usize, k: Quad)
     requires { ⌜ i + 4 ≤ length (now keys) ⌝ }
     ensures { λ _. ⌜ now (keys .exit) ≡ setFour (now (keys .entry)) i k ⌝ }
 {

@@ -298,14 +298,14 @@ const CK: [u32; 32] = [
 ];
 
 // The S-box (6.2 a)).
-pub(crate) fn sbox() -> [u8; 256]
+pub fn sbox() -> [u8; 256]
     ensures { λ r. ⌜ r ≡ sbox ⌝ }
 {
     SBOX
 }
 
 // The fixed parameters CK (7.3 c)).
-pub(crate) fn constants() -> [u32; 32]
+pub fn constants() -> [u32; 32]
     ensures { λ r. ⌜ r ≡ cks ⌝ }
 {
     CK

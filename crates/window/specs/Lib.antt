@@ -10,3 +10,6 @@ pub mod TokenCheck
 pub mod Meaning
 pub mod SearchLaws
 pub mod TokenCheckLaws
+pub mod Lanes
+pub mod LanesLaws
+pub mod LanesCheckLaws

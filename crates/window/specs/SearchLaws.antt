@@ -42,7 +42,7 @@ module _ (test : ℕ → Bool) (at end : ℕ) where
 
 -- ---- the range: a test that is another within a range, and fails outside it, is searched by the other there
 
-sweep-same : (test other : ℕ → Bool) (from k : ℕ) → ((r : ℕ) → from ≤ r → r < from + k → test r ≡ other r) → sweep test from k ≡ sweep other from k
+pub sweep-same : (test other : ℕ → Bool) (from k : ℕ) → ((r : ℕ) → from ≤ r → r < from + k → test r ≡ other r) → sweep test from k ≡ sweep other from k
 unfolding sweep
 sweep-same test other from zero h = refl
 sweep-same test other from (suc k) h =
@@ -146,6 +146,11 @@ abbrev pub judge : (ℕ → Bool) → Found → Found → Outcome
 judge tooFar (At a) used = accepting tooFar (a .0)
 judge tooFar Nowhere (At a) = Used
 judge tooFar Nowhere Nowhere = Wrong
+
+-- a search of the used steps, where no fresh one matched
+abbrev pub usedOrWrong : Found → Outcome
+usedOrWrong (At a) = Used
+usedOrWrong Nowhere = Wrong
 
 judged-found : (tooFar : ℕ → Bool) (ahead : ℕ) (fresh used : Option ℕ)
     → settled tooFar ahead (judged fresh used) ≡ judge tooFar (foundOf (shifted ahead fresh)) (foundOf (shifted ahead used))

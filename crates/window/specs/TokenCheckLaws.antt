@@ -1,6 +1,6 @@
 -- The checks of a token by two searches.
 use Prim.Native.Nat.{ℕ, suc, _+_, _-_, _^_, _≤_, min, max}
-use mathlib.Core.Path.{_≡_, sym, ap, ap₂, _∙_}
+use mathlib.Core.Path.{_≡_, refl, sym, ap, ap₂, _∙_}
 use mathlib.Core.Bool.{Bool, true, false, cond, _&&_}
 use mathlib.Core.List.{List, [], _∷_}
 use native.Mathlib.Nat.{add-zero, sub-zero, le-trans, min-le-left, div-le-self}
@@ -13,10 +13,10 @@ use Rattle.window.specs.declared.Size.{Size}
 use Rattle.window.specs.declared.Step.{Step}
 use Rattle.window.specs.declared.Track.{Track}
 use Rattle.window.specs.declared.Outcome.{Outcome}
-use Rattle.window.specs.declared.Outcome.the-variants.{Accepted, Used, Wrong}
+use Rattle.window.specs.declared.Outcome.the-variants.{Accepted, Wrong}
 use Rattle.window.specs.declared.search.Found.{Found}
 use Rattle.window.specs.declared.search.Found.the-variants.{At, Nowhere}
-use Rattle.window.specs.Window.{timeToken, stepAt, timeWidth, candidate, beyond, Sound}
+use Rattle.window.specs.Window.{timeToken, stepAt, farthest, timeWidth, candidate, beyond, Sound}
 use Rattle.window.specs.WindowLaws.{timeFirst, eventFirst, firstStep, endStep, candidates-are-range, end-below}
 use Rattle.window.specs.Check.{singleHit, pairHit, accepting}
 use Rattle.window.specs.CheckLaws.{sweep}
@@ -24,7 +24,7 @@ use Rattle.window.specs.Meaning.{single-accepts-candidate, single-wrong-
 use Rattle.window.specs.PasswordAt.{hasPassword}
 use Rattle.window.specs.PasswordAtLaws.{EndOk, aheadOf, matchesAt, countsRight, other-length}
 use Rattle.window.specs.TokenCheck.{tooFar, singleCheck, pairCheck, checkOf}
-use Rattle.window.specs.SearchLaws.{foundOf, both-in-range, judge, check-searched}
+use Rattle.window.specs.SearchLaws.{foundOf, both-in-range, judge, usedOrWrong, check-searched}
 
 -- an event token's candidates are counts of 32 bits
 pub end-fits : (k : Track) (clock : ℕ) (size : Size) {end : ℕ} → end ≡ endStep k clock size → EndOk (k .rule .kind) end
@@ -42,6 +42,14 @@ first-fits k clock size good = pick (eqb (k .rule .kind) timeToken)
     pick : (b : Bool) → cond b (timeFirst (stepAt clock (k .period)) (k .offset .0) (timeWidth size)) (eventFirst (k .next .0)) ≤ 2 ^ 41
     pick true = omega (arith, good .timely, good .within, div-le-self clock (k .period))
     pick false = omega (arith, good .counted)
+
+pub end-small : (k : Track) (clock : ℕ) (size : Size) → Sound k clock → endStep k clock size ≤ 2 ^ 41
+unfolding beyond
+end-small k clock size good = le-trans (end-below k clock size) (pick (eqb (k .rule .kind) timeToken))
+  where
+    pick : (b : Bool) → cond b (stepAt clock (k .period) + farthest + 1) (2 ^ 32) ≤ 2 ^ 41
+    pick true = omega (arith, good .timely, div-le-self clock (k .period))
+    pick false = omega arith
 
 -- ---- the two searches
 
@@ -87,11 +95,12 @@ module _ (k : Track) (clock : ℕ) (size : Size) (key challenge presented follow
         let v : foundOf (sweep (matchesAt (k .rule) key challenge presented following) (first + ahead) (min end (k .next .0 + ahead) - (first + ahead))) ≡ g = rw (← n) (sym u) in
         judged-check ∙ ap₂ (judge (tooFar k clock)) i v
 
-    pub check-used : {s : Step} → g ≡ At s → Used ≡ checkOf k clock size key challenge presented following
-    check-used j = sym (judged-used ∙ ap (judge (tooFar k clock) Nowhere) j)
-
-    pub check-wrong : g ≡ Nowhere → Wrong ≡ checkOf k clock size key challenge presented following
-    check-wrong j = sym (judged-used ∙ ap (judge (tooFar k clock) Nowhere) j)
+    pub check-rest : {r : Outcome} → r ≡ usedOrWrong g → r ≡ checkOf k clock size key challenge presented following
+    check-rest e = e ∙ sym (judged-used ∙ by-found g)
+      where
+        by-found : (x : Found) → judge (tooFar k clock) Nowhere x ≡ usedOrWrong x
+        by-found (At s) = refl
+        by-found Nowhere = refl
 
 -- ---- a digit count not the token's is wrong, and nothing need be searched
 

@@ -5,6 +5,9 @@ use crate::Size;
 use crate::Step;
 use crate::TIME_TOKEN;
 use crate::Track;
+use crate::lanes::goal_of;
+use crate::lanes::search_again;
+use crate::lanes::search_keyed;
 use crate::matching::ahead_of;
 use crate::range::FARTHEST;
 use crate::range::candidates;
@@ -17,10 +20,17 @@ use crate::search::first_match;
 use otp::prepared::prepare;
 ghost use mathlib.Core.Path.{_≡_};
 ghost use mathlib.Core.Bool.{true};
+ghost use Prim.Native.Nat.{_+_, _≤_, min, max};
+ghost use lib.ListN.{length};
 ghost use Rattle.window.specs.Window.{Sound};
+ghost use Rattle.window.specs.WindowLaws.{firstStep, endStep};
 ghost use Rattle.window.specs.Check.{accepting};
+ghost use Rattle.window.specs.SearchLaws.{usedOrWrong};
 ghost use Rattle.window.specs.TokenCheck.{tooFar, checkOf};
 ghost use Rattle.window.specs.PasswordAtLaws.{inRange, countsRight};
+
+// The algorithm whose candidates go side by side.
+const SM4: u8 = 4;
 
 // Whether the presented passwords have as many digits as the token's.
 fn counts_right(digits: u8, presented: &[u8], following: &[u8]) -> bool
@@ -44,7 +54,47 @@ fn accept(track: Track, clock: Seconds, a: u64) -> Outcome
     Outcome::Accepted(Step(a))
 }
 
-// Steps that could be accepted are searched, fresh ones first: if one matches, no used one counts. A pair is fresh if the step before is.
+// The candidates in two parts, by the step to accept: used ones from first + ahead up to used, fresh ones from fresh up to end.
+pub struct Parts {
+    pub first: u64,
+    pub end: u64,
+    pub fresh: u64,
+    pub used: u64,
+}
+
+// A pair is fresh if the step before is.
+fn parted(track: Track, clock: Seconds, size: Size, ahead: u64) -> Parts
+    requires { ⌜ Sound track (clock .0) ⌝ }
+    requires { ⌜ ahead ≤ 1 ⌝ }
+    ensures { λ r. ⌜ r .first ≡ firstStep track (clock .0) size ⌝ }
+    ensures { λ r. ⌜ r .end ≡ endStep track (clock .0) size ⌝ }
+    ensures { λ r. ⌜ r .fresh ≡ max (r .first + ahead) (track .next .0 + ahead) ⌝ }
+    ensures { λ r. ⌜ r .used ≡ min (r .end) (track .next .0 + ahead) ⌝ }
+{
+    let range = candidates(track, clock, size);
+    let first = range.first.0 + ahead;
+    let end = range.end.0;
+    let fresh = larger(first, track.next.0 + ahead);
+    let used = smaller(end, track.next.0 + ahead);
+    Parts {
+        first: range.first.0,
+        end,
+        fresh,
+        used,
+    }
+}
+
+// What a search of the used steps means.
+fn used_or_wrong(found: Found) -> Outcome
+    ensures { λ r. ⌜ r ≡ usedOrWrong found ⌝ }
+{
+    match found {
+        Found::At(_) => Outcome::Used,
+        Found::Nowhere => Outcome::Wrong,
+    }
+}
+
+// Steps that could be accepted are searched, fresh ones first: if one matches, no used one counts.
 fn searched(
     track: Track,
     clock: Seconds,
@@ -59,11 +109,8 @@ fn searched(
     ensures { λ r. ⌜ r ≡ checkOf track (clock .0) size (now (key .entry)) (now (challenge .entry)) (now (presented .entry)) (now (following .entry)) ⌝ }
 {
     let keys = prepare(track.rule.algorithm, key);
-    let range = candidates(track, clock, size);
     let ahead = ahead_of(following);
-    let first = range.first.0 + ahead;
-    let end = range.end.0;
-    let fresh = larger(first, track.next.0 + ahead);
+    let ranges = parted(track, clock, size, ahead);
     if let Found::At(a) = first_match(
         track.rule,
         key,
@@ -71,25 +118,56 @@ fn searched(
         challenge,
         presented,
         following,
-        fresh,
-        end,
+        ranges.fresh,
+        ranges.end,
     ) {
         return accept(track, clock, a.0);
     }
-    let used_end = smaller(end, track.next.0 + ahead);
-    match first_match(
+    used_or_wrong(first_match(
         track.rule,
         key,
         &keys,
         challenge,
         presented,
         following,
-        first,
-        used_end,
-    ) {
-        Found::At(_) => Outcome::Used,
-        Found::Nowhere => Outcome::Wrong,
+        ranges.first + ahead,
+        ranges.used,
+    ))
+}
+
+// The same by SM4 without a challenge, several steps at once. The first of them make the round keys, which serve all later ones.
+fn searched_in_lanes(
+    track: Track,
+    clock: Seconds,
+    size: Size,
+    key: &[u8],
+    challenge: &[u8],
+    presented: &[u8],
+    following: &[u8],
+) -> Outcome
+    requires { ⌜ Sound track (clock .0) ⌝ }
+    requires { ⌜ inRange (track .rule) (now key) (now challenge) ≡ true ⌝ }
+    requires { ⌜ track .rule .algorithm ≡ 4 ⌝ }
+    requires { ⌜ length (now challenge) ≡ 0 ⌝ }
+    requires { ⌜ countsRight (track .rule .digits) (now presented) (now following) ≡ true ⌝ }
+    ensures { λ r. ⌜ r ≡ checkOf track (clock .0) size (now (key .entry)) (now (challenge .entry)) (now (presented .entry)) (now (following .entry)) ⌝ }
+{
+    let goal = goal_of(track.rule.digits, presented, following);
+    let timed = track.rule.kind == TIME_TOKEN;
+    let ahead = ahead_of(following);
+    let ranges = parted(track, clock, size, ahead);
+    let first = ranges.first + ahead;
+    let mut keys = [0u32; 32];
+    if ranges.end <= ranges.fresh {
+        if ranges.used <= first {
+            return Outcome::Wrong;
+        }
+        return used_or_wrong(search_keyed(goal, key, timed, first, ranges.used, &mut keys));
     }
+    if let Found::At(a) = search_keyed(goal, key, timed, ranges.fresh, ranges.end, &mut keys) {
+        return accept(track, clock, a.0);
+    }
+    used_or_wrong(search_again(goal, &keys, timed, first, ranges.used))
 }
 
 // The check of one presented password, or of two as a pair; following is empty where there is one.
@@ -108,6 +186,9 @@ pub fn check(
 {
     if !counts_right(track.rule.digits, presented, following) {
         return Outcome::Wrong;
+    }
+    if (track.rule.algorithm == SM4) & (challenge.len() == 0) {
+        return searched_in_lanes(track, clock, size, key, challenge, presented, following);
     }
     searched(track, clock, size, key, challenge, presented, following)
 }

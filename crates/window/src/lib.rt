@@ -1,6 +1,7 @@
 // Steps and windows (document 01, Part 3).
 mod arguments;
 mod checks;
+mod lanes;
 mod matching;
 mod range;
 mod search;

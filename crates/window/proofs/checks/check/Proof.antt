@@ -1,6 +1,9 @@
-use mathlib.Core.Path.{sym, _∙_}
-use borrow.Author.Tests.{not-true}
+use lib.ListN.{length}
+use lib.Dec.{eqb}
 use Rattle.window.specs.TokenCheckLaws.{check-counted}
+use Rattle.words.specs.Tables.{and-left, and-right}
+use borrow.Author.Tests.{not-true, not-false, eqb-true}
+use mathlib.Core.Path.{sym, _∙_}
 use borrow.Author.Needs.{needs}
 use Rattle.window.proofs.checks.check.Statement.{statement}
 use Rattle.window.proofs.checks.check.Tie as tie
@@ -9,13 +12,27 @@ counts-right-requires : tie.Need-counts-right-requires
 counts-right-requires c κs = search needs
 
 returns : tie.Need-returns
-returns c = let a = c .before .before .before .before .before .before .args in check-counted (a .track) (a .clock .0) (a .size) (a .key .now) (a .challenge .now) (a .presented .now) (a .following .now) (sym (c .before .counts-right .ensures) ∙ not-true _ (c .if1 .taken))
+returns c = check-counted (c .before .before .before .before .before .before .args .track) (c .before .before .before .before .before .before .args .clock .0) (c .before .before .before .before .before .before .args .size) (c .before .before .before .before .before .before .args .key .now) (c .before .before .before .before .before .before .args .challenge .now) (c .before .before .before .before .before .before .args .presented .now) (c .before .before .before .before .before .before .args .following .now) (sym (c .before .counts-right .ensures) ∙ not-true _ (c .if1 .taken))
 
-searched-requires : tie.Need-searched-requires
-searched-requires c κs = search needs
+searched-in-lanes-requires : tie.Need-searched-in-lanes-requires
+searched-in-lanes-requires c κs = (c .before .before .before .before .before .before .before .before .pre .0, (c .before .before .before .before .before .before .before .before .pre .1, (eqb-true (c .before .before .before .before .before .before .before .before .args .track .rule .algorithm) 4 (and-left (eqb (c .before .before .before .before .before .before .before .before .args .track .rule .algorithm) 4) (eqb (length (c .before .before .before .before .before .before .before .before .args .challenge .now)) 0) (c .if2 .taken)), (eqb-true (length (c .before .before .before .before .before .before .before .before .args .challenge .now)) 0 (and-right (eqb (c .before .before .before .before .before .before .before .before .args .track .rule .algorithm) 4) (eqb (length (c .before .before .before .before .before .before .before .before .args .challenge .now)) 0) (c .if2 .taken)), sym (c .before .before .before .counts-right .ensures) ∙ not-false _ (c .before .before .if1 .left)))))
 
 returns-2 : tie.Need-returns-2
 returns-2 c = search needs
 
+searched-requires : tie.Need-searched-requires
+searched-requires c κs = search needs
+
+returns-3 : tie.Need-returns-3
+returns-3 c = search needs
+
 pub check-spec : {M : Type 1} → statement M
-check-spec = tie.close (tie.spec counts-right-requires returns searched-requires returns-2)
+check-spec =
+    tie.close
+    (tie.spec
+    counts-right-requires
+    returns
+    searched-in-lanes-requires
+    returns-2
+    searched-requires
+    returns-3)

@@ -1,0 +1,46 @@
+use Rattle.sm4.specs.SidesLaws.{sides-keys}
+use Rattle.lanes.specs.LanesLaws.{lane-state}
+use borrow.Author.Needs.{needs}
+use Rattle.lanes.proofs.three.first_three.Statement.{statement}
+use Rattle.lanes.proofs.three.first_three.Tie as tie
+
+sbox-requires : tie.Need-sbox-requires
+sbox-requires c κs = search needs
+
+constants-requires : tie.Need-constants-requires
+constants-requires c κs = search needs
+
+words-of-requires : tie.Need-words-of-requires
+words-of-requires c κs = search needs
+
+masked-requires : tie.Need-masked-requires
+masked-requires c κs = search needs
+
+slice-aggregate-all-steps : tie.Need-slice-aggregate-all-steps
+slice-aggregate-all-steps c = search needs
+
+slice-aggregate-all-steps-2 : tie.Need-slice-aggregate-all-steps-2
+slice-aggregate-all-steps-2 c = search needs
+
+all-steps-requires : tie.Need-all-steps-requires
+all-steps-requires c κs = search needs
+
+same-length : tie.Need-same-length
+same-length c = search needs
+
+returns : tie.Need-returns
+returns c = (lane-state (c .before .before .before .before .before .before .before .before .before .before .before .before .before .before .before .before .before .before .args .key .now) (c .before .before .before .before .before .before .before .before .before .before .before .before .before .before .before .before .before .before .args .blocks .first) (c .before .before .before .before .before .before .before .before .before .before .words-of .ensures) (c .before .before .before .before .before .before .before .before .before .masked .ensures) (c .before .before .before .before .before .all-steps .ensures .0), (lane-state (c .before .before .before .before .before .before .before .before .before .before .before .before .before .before .before .before .before .before .args .key .now) (c .before .before .before .before .before .before .before .before .before .before .before .before .before .before .before .before .before .before .args .blocks .second) (c .before .before .before .before .before .before .before .before .before .before .words-of .ensures) (c .before .before .before .before .before .before .before .before .before .masked .ensures) (c .before .before .before .before .before .all-steps .ensures .1 .0), (lane-state (c .before .before .before .before .before .before .before .before .before .before .before .before .before .before .before .before .before .before .args .key .now) (c .before .before .before .before .before .before .before .before .before .before .before .before .before .before .before .before .before .before .args .blocks .third) (c .before .before .before .before .before .before .before .before .before .before .words-of .ensures) (c .before .before .before .before .before .before .before .before .before .masked .ensures) (c .before .before .before .before .before .all-steps .ensures .1 .1 .0), sides-keys (c .before .before .before .before .before .before .before .before .before .before .before .before .before .before .before .before .before .before .args .key .now) (c .before .before .before .before .before .before .before .before .before .before .words-of .ensures) (c .before .before .before .before .before .before .before .before .before .masked .ensures) (c .before .before .before .before .before .all-steps .ensures .1 .1 .1))))
+
+pub first-three-spec : {M : Type 1} → statement M
+first-three-spec =
+    tie.close
+    (tie.spec
+    sbox-requires
+    constants-requires
+    words-of-requires
+    masked-requires
+    slice-aggregate-all-steps
+    slice-aggregate-all-steps-2
+    all-steps-requires
+    same-length
+    returns)

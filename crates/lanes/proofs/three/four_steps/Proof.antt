@@ -1,0 +1,139 @@
+use mathlib.Core.Path.{ap₂, _∙_}
+use Rattle.lanes.specs.LanesLaws.{side}
+use Rattle.sm4.specs.SidesLaws.{four-sides}
+use borrow.Author.Needs.{needs}
+use Rattle.lanes.proofs.three.four_steps.Statement.{statement}
+use Rattle.lanes.proofs.three.four_steps.Tie as tie
+
+mul-ca : tie.Need-mul-ca
+mul-ca c = search needs
+
+shared-slice-read-ca : tie.Need-shared-slice-read-ca
+shared-slice-read-ca c = search needs
+
+add-cb : tie.Need-add-cb
+add-cb c = search needs
+
+mul-cb : tie.Need-mul-cb
+mul-cb c = search needs
+
+shared-slice-read-cb : tie.Need-shared-slice-read-cb
+shared-slice-read-cb c = search needs
+
+add-cc : tie.Need-add-cc
+add-cc c = search needs
+
+mul-cc : tie.Need-mul-cc
+mul-cc c = search needs
+
+shared-slice-read-cc : tie.Need-shared-slice-read-cc
+shared-slice-read-cc c = search needs
+
+add-cd : tie.Need-add-cd
+add-cd c = search needs
+
+mul-cd : tie.Need-mul-cd
+mul-cd c = search needs
+
+shared-slice-read-cd : tie.Need-shared-slice-read-cd
+shared-slice-read-cd c = search needs
+
+key-round-requires : tie.Need-key-round-requires
+key-round-requires c κs = c .before .before .before .before .before .before .before .before .before .before .pre .0
+
+round-requires : tie.Need-round-requires
+round-requires c κs = c .before .before .before .before .before .before .before .before .before .before .before .pre .0
+
+round-requires-2 : tie.Need-round-requires-2
+round-requires-2 c κs = c .before .before .before .before .before .before .before .before .before .before .before .before .pre .0
+
+round-requires-3 : tie.Need-round-requires-3
+round-requires-3 c κs = c .before .before .before .before .before .before .before .before .before .before .before .before .before .pre .0
+
+key-round-requires-2 : tie.Need-key-round-requires-2
+key-round-requires-2 c κs = c .before .before .before .before .before .before .before .before .before .before .before .before .before .before .pre .0
+
+round-requires-4 : tie.Need-round-requires-4
+round-requires-4 c κs = c .before .before .before .before .before .before .before .before .before .before .before .before .before .before .before .pre .0
+
+round-requires-5 : tie.Need-round-requires-5
+round-requires-5 c κs = c .before .before .before .before .before .before .before .before .before .before .before .before .before .before .before .before .pre .0
+
+round-requires-6 : tie.Need-round-requires-6
+round-requires-6 c κs = c .before .before .before .before .before .before .before .before .before .before .before .before .before .before .before .before .before .pre .0
+
+key-round-requires-3 : tie.Need-key-round-requires-3
+key-round-requires-3 c κs = c .before .before .before .before .before .before .before .before .before .before .before .before .before .before .before .before .before .before .pre .0
+
+round-requires-7 : tie.Need-round-requires-7
+round-requires-7 c κs = c .before .before .before .before .before .before .before .before .before .before .before .before .before .before .before .before .before .before .before .pre .0
+
+round-requires-8 : tie.Need-round-requires-8
+round-requires-8 c κs = c .before .before .before .before .before .before .before .before .before .before .before .before .before .before .before .before .before .before .before .before .pre .0
+
+round-requires-9 : tie.Need-round-requires-9
+round-requires-9 c κs = c .before .before .before .before .before .before .before .before .before .before .before .before .before .before .before .before .before .before .before .before .before .pre .0
+
+key-round-requires-4 : tie.Need-key-round-requires-4
+key-round-requires-4 c κs = c .before .before .before .before .before .before .before .before .before .before .before .before .before .before .before .before .before .before .before .before .before .before .pre .0
+
+round-requires-10 : tie.Need-round-requires-10
+round-requires-10 c κs = c .before .before .before .before .before .before .before .before .before .before .before .before .before .before .before .before .before .before .before .before .before .before .before .pre .0
+
+round-requires-11 : tie.Need-round-requires-11
+round-requires-11 c κs = c .before .before .before .before .before .before .before .before .before .before .before .before .before .before .before .before .before .before .before .before .before .before .before .before .pre .0
+
+round-requires-12 : tie.Need-round-requires-12
+round-requires-12 c κs = c .before .before .before .before .before .before .before .before .before .before .before .before .before .before .before .before .before .before .before .before .before .before .before .before .before .pre .0
+
+quad-requires : tie.Need-quad-requires
+quad-requires c κs = search needs
+
+quad-requires-2 : tie.Need-quad-requires-2
+quad-requires-2 c κs = search needs
+
+quad-requires-3 : tie.Need-quad-requires-3
+quad-requires-3 c κs = search needs
+
+quad-requires-4 : tie.Need-quad-requires-4
+quad-requires-4 c κs = search needs
+
+returns : tie.Need-returns
+returns c = (ap₂ side (c .before .before .before .quad .ensures) (c .before .before .quad2 .ensures) ∙ four-sides (c .before .before .before .before .before .before .before .before .before .before .before .before .before .before .before .before .before .before .before .before .before .before .before .before .before .before .before .before .before .before .args .ck .now) (c .before .before .before .before .before .before .before .before .before .before .before .before .before .before .before .before .before .before .before .before .before .before .before .before .before .before .before .before .before .before .args .i) (side (c .before .before .before .before .before .before .before .before .before .before .before .before .before .before .before .before .before .before .before .before .before .before .before .before .before .before .before .before .before .before .args .s .key) (c .before .before .before .before .before .before .before .before .before .before .before .before .before .before .before .before .before .before .before .before .before .before .before .before .before .before .before .before .before .before .args .s .first)) (c .before .before .before .before .before .before .before .before .before .before .before .before .before .before .before .before .before .before .before .key-round .ensures) (c .before .before .before .before .before .before .before .before .before .before .before .before .before .before .before .before .before .before .round .ensures) (c .before .before .before .before .before .before .before .before .before .before .before .before .before .before .before .key-round2 .ensures) (c .before .before .before .before .before .before .before .before .before .before .before .before .before .before .round4 .ensures) (c .before .before .before .before .before .before .before .before .before .before .before .key-round3 .ensures) (c .before .before .before .before .before .before .before .before .before .before .round7 .ensures) (c .before .before .before .before .before .before .before .key-round4 .ensures) (c .before .before .before .before .before .before .round10 .ensures), (ap₂ side (c .before .before .before .quad .ensures) (c .before .quad3 .ensures) ∙ four-sides (c .before .before .before .before .before .before .before .before .before .before .before .before .before .before .before .before .before .before .before .before .before .before .before .before .before .before .before .before .before .before .args .ck .now) (c .before .before .before .before .before .before .before .before .before .before .before .before .before .before .before .before .before .before .before .before .before .before .before .before .before .before .before .before .before .before .args .i) (side (c .before .before .before .before .before .before .before .before .before .before .before .before .before .before .before .before .before .before .before .before .before .before .before .before .before .before .before .before .before .before .args .s .key) (c .before .before .before .before .before .before .before .before .before .before .before .before .before .before .before .before .before .before .before .before .before .before .before .before .before .before .before .before .before .before .args .s .second)) (c .before .before .before .before .before .before .before .before .before .before .before .before .before .before .before .before .before .before .before .key-round .ensures) (c .before .before .before .before .before .before .before .before .before .before .before .before .before .before .before .before .before .round2 .ensures) (c .before .before .before .before .before .before .before .before .before .before .before .before .before .before .before .key-round2 .ensures) (c .before .before .before .before .before .before .before .before .before .before .before .before .before .round5 .ensures) (c .before .before .before .before .before .before .before .before .before .before .before .key-round3 .ensures) (c .before .before .before .before .before .before .before .before .before .round8 .ensures) (c .before .before .before .before .before .before .before .key-round4 .ensures) (c .before .before .before .before .before .round11 .ensures), ap₂ side (c .before .before .before .quad .ensures) (c .quad4 .ensures) ∙ four-sides (c .before .before .before .before .before .before .before .before .before .before .before .before .before .before .before .before .before .before .before .before .before .before .before .before .before .before .before .before .before .before .args .ck .now) (c .before .before .before .before .before .before .before .before .before .before .before .before .before .before .before .before .before .before .before .before .before .before .before .before .before .before .before .before .before .before .args .i) (side (c .before .before .before .before .before .before .before .before .before .before .before .before .before .before .before .before .before .before .before .before .before .before .before .before .before .before .before .before .before .before .args .s .key) (c .before .before .before .before .before .before .before .before .before .before .before .before .before .before .before .before .before .before .before .before .before .before .before .before .before .before .before .before .before .before .args .s .third)) (c .before .before .before .before .before .before .before .before .before .before .before .before .before .before .before .before .before .before .before .key-round .ensures) (c .before .before .before .before .before .before .before .before .before .before .before .before .before .before .before .before .round3 .ensures) (c .before .before .before .before .before .before .before .before .before .before .before .before .before .before .before .key-round2 .ensures) (c .before .before .before .before .before .before .before .before .before .before .before .before .round6 .ensures) (c .before .before .before .before .before .before .before .before .before .before .before .key-round3 .ensures) (c .before .before .before .before .before .before .before .before .round9 .ensures) (c .before .before .before .before .before .before .before .key-round4 .ensures) (c .before .before .before .before .round12 .ensures)))
+
+pub four-steps-spec : {M : Type 1} → statement M
+four-steps-spec =
+    tie.close
+    (tie.spec
+    mul-ca
+    shared-slice-read-ca
+    add-cb
+    mul-cb
+    shared-slice-read-cb
+    add-cc
+    mul-cc
+    shared-slice-read-cc
+    add-cd
+    mul-cd
+    shared-slice-read-cd
+    key-round-requires
+    round-requires
+    round-requires-2
+    round-requires-3
+    key-round-requires-2
+    round-requires-4
+    round-requires-5
+    round-requires-6
+    key-round-requires-3
+    round-requires-7
+    round-requires-8
+    round-requires-9
+    key-round-requires-4
+    round-requires-10
+    round-requires-11
+    round-requires-12
+    quad-requires
+    quad-requires-2
+    quad-requires-3
+    quad-requires-4
+    returns)

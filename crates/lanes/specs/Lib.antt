@@ -1,0 +1,2 @@
+-- Several SM4 blocks side by side.
+pub mod LanesLaws

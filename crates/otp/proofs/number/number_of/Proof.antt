@@ -1,0 +1,67 @@
+use Rattle.otp.specs.NumbersLaws.{number-none, number-fits, number-grows, number-more, number-made, number-end}
+use Rattle.otp.specs.Numbers.{numberFrom}
+use lib.ListN.{length, drop}
+use borrow.Author.Tests.{not-true, not-false}
+use mathlib.Core.Path.{_≡_, refl, sym, _∙_}
+use Prim.Native.Nat.{_+_, _-_, _*_, _^_, _≤_}
+use native.Mathlib.Omega.{arith}
+use borrow.Author.Needs.{needs}
+use Rattle.otp.proofs.number.number_of.Statement.{statement}
+use Rattle.otp.proofs.number.number_of.Tie as tie
+
+abbrev Inv-loop : tie.InvT-loop
+Inv-loop digits x₀ i₀ x i = (i ≤ length digits) × ((x + 23 ≤ 23 * 10 ^ i) × (numberFrom x (drop i digits) ≡ numberFrom 0 digits))
+
+abbrev μ-loop : tie.MeasureT-loop
+μ-loop digits x₀ i₀ x i = length digits - i
+
+within-requires : tie.Need-within-requires Inv-loop μ-loop
+within-requires c κs = search needs
+
+returns : tie.Need-returns Inv-loop μ-loop
+returns c = number-none (c .before .before .before .args .digits .now) (c .before .within .ensures) (not-true _ (c .if1 .taken))
+
+loop-holds : tie.Need-loop-holds Inv-loop μ-loop
+loop-holds c = (search needs, (omega arith, refl))
+
+mul-x : tie.Need-mul-x Inv-loop μ-loop
+mul-x c = let p = number-fits (c .before .loop .i) (c .before .loop .x) (omega (arith, c .before .before .before .before .before .pre)) (c .before .loop .inv .1 .0) in omega (arith, p)
+
+shared-slice-read-digit : tie.Need-shared-slice-read-digit Inv-loop μ-loop
+shared-slice-read-digit c = search needs
+
+digit-requires : tie.Need-digit-requires Inv-loop μ-loop
+digit-requires c κs = search needs
+
+add-x : tie.Need-add-x Inv-loop μ-loop
+add-x c = let p = number-fits (c .before .before .before .loop .i) (c .before .before .before .loop .x) (omega (arith, c .before .before .before .before .before .before .before .pre)) (c .before .before .before .loop .inv .1 .0) in omega (arith, p, c .digit .ensures .1)
+
+add-i : tie.Need-add-i Inv-loop μ-loop
+add-i c = search needs
+
+loop-less : tie.Need-loop-less Inv-loop μ-loop
+loop-less c = search needs
+
+loop-again : tie.Need-loop-again Inv-loop μ-loop
+loop-again c = let l = c .before .before .before .loop in (search needs, (number-grows (l .i) (l .x) (l .inv .1 .0) (c .digit .ensures .1), sym (number-more (c .before .before .before .before .before .before .before .args .digits .now) (l .i) (l .x) (omega arith) (c .digit .ensures .0)) ∙ l .inv .1 .1))
+
+returns-2 : tie.Need-returns-2 Inv-loop μ-loop
+returns-2 c = let l = c .before .loop in number-made (c .before .before .before .before .before .args .digits .now) (c .before .before .before .within .ensures) (not-false _ (c .before .before .if1 .left)) (sym (number-end (c .before .before .before .before .before .args .digits .now) (l .i) (l .x) (omega arith)) ∙ l .inv .1 .1)
+
+pub number-of-spec : {M : Type 1} → statement M
+number-of-spec =
+    tie.close
+    (tie.spec
+    Inv-loop
+    μ-loop
+    within-requires
+    returns
+    loop-holds
+    mul-x
+    shared-slice-read-digit
+    digit-requires
+    add-x
+    add-i
+    loop-less
+    loop-again
+    returns-2)

@@ -1,0 +1,132 @@
+-- A step's cut under a key's round keys is the password's.
+use Prim.Native.Nat.{ℕ, zero, suc, _+_, _-_, _*_, _/_, _%_, _^_, _<_}
+use mathlib.Core.Bool.{Bool, true, false, cond}
+use mathlib.Core.Path.{_≡_, refl, sym, ap, ap₂, _∙_}
+use mathlib.Core.List.{List, [], _∷_, _++_, append-assoc, append-nil}
+use native.Mathlib.Nat.{add-zero, not-suc-le-zero, le-of-suc-le-suc}
+use native.Mathlib.Omega.{arith}
+use lib.ListN.{length, getD, take, replicate, length-append}
+use lib.Seq.{take-all}
+use Rattle.words.specs.Bytes.{beAt, beBytes}
+use Rattle.words.specs.BytesLaws.{beBytes-split, beBytes-mod, length-beBytes}
+use Rattle.sm4.specs.Sm4.{linear, steps, wordsOf, reversed, encryptWith, roundKeys, sm4Of}
+use Rattle.sm4.specs.Sm4Laws.{QuadBelow, steps-below, linear-lt}
+use Rattle.sm4.specs.ReturnLaws.{output-words}
+use Rattle.sm4.specs.declared.round.Quad.{Quad}
+use Rattle.otp.specs.declared.Factor.the-variants.{Absent, Present}
+use Rattle.otp.specs.Password.{factorBytes, idOf, filled, toBlocks, blockAt, outputOf, chained, wordSum, cut}
+use Rattle.otp.specs.ChainLaws.{prepared, bytes-words}
+use Rattle.otp.specs.StepCuts.{stepBlock, wordsCut, cutBy, cutsBy}
+
+-- ---- the list
+
+pub length-cutsBy : (keys : List ℕ) (timed : Bool) (n s : ℕ) → length (cutsBy keys timed n s) ≡ n
+unfolding cutsBy
+length-cutsBy keys timed zero s = refl
+length-cutsBy keys timed (suc n) s = ap suc (length-cutsBy keys timed n (s + 1))
+
+pub cutsBy-at : (keys : List ℕ) (timed : Bool) (n s i : ℕ) → i < n → getD (cutsBy keys timed n s) i 0 ≡ cutBy keys timed (s + i)
+unfolding cutsBy
+cutsBy-at keys timed zero s i h = absurd (not-suc-le-zero h)
+cutsBy-at keys timed (suc n) s zero h = rw add-zero
+cutsBy-at keys timed (suc n) s (suc i) h =
+    cutsBy-at keys timed n (s + 1) i (le-of-suc-le-suc h) ∙ ap (cutBy keys timed) (let e : s + 1 + i ≡ s + suc i = omega arith in e)
+
+pub three-cuts : (keys : List ℕ) (timed : Bool) (s : ℕ) {a b c : ℕ} → a ≡ cutBy keys timed s → b ≡ cutBy keys timed (s + 1) → c ≡ cutBy keys timed (s + 2)
+    → a ∷ b ∷ c ∷ [] ≡ cutsBy keys timed 3 s
+unfolding cutsBy
+three-cuts keys timed s ea eb ec = rw (ea, eb, ec) (let e : s + 2 ≡ s + 1 + 1 = omega arith in rw e)
+
+pub five-cuts : (keys : List ℕ) (timed : Bool) (s : ℕ) {a b c d e : ℕ}
+    → a ≡ cutBy keys timed s → b ≡ cutBy keys timed (s + 1) → c ≡ cutBy keys timed (s + 2) → d ≡ cutBy keys timed (s + 3) → e ≡ cutBy keys timed (s + 4)
+    → a ∷ b ∷ c ∷ d ∷ e ∷ [] ≡ cutsBy keys timed 5 s
+unfolding cutsBy
+five-cuts keys timed s ea eb ec ed ee =
+    let f : s + 2 ≡ s + 1 + 1 = omega arith in
+    let g : s + 3 ≡ s + 1 + 1 + 1 = omega arith in
+    let h : s + 4 ≡ s + 1 + 1 + 1 + 1 = omega arith in
+    rw (ea, eb, ec, ed, ee, f, g, h)
+
+-- one lane
+pub lane-cut : (keys : List ℕ) (timed : Bool) (s : ℕ) {x q : Quad} {r : ℕ} → x ≡ stepBlock timed s → q ≡ steps linear keys 32 x → r ≡ wordsCut q → r ≡ cutBy keys timed s
+unfolding cutBy
+lane-cut keys timed s ex eq er = er ∙ ap wordsCut (eq ∙ ap (steps linear keys 32) ex)
+
+-- ---- the block
+
+-- eight bytes, then eight zeros
+timed-bytes : (s : ℕ) → filled (idOf (Present s) Absent []) ≡ beBytes 8 s ++ beBytes 8 0
+unfolding filled idOf factorBytes beBytes
+timed-bytes s = refl
+
+-- four bytes, then twelve zeros
+counted-bytes : (s : ℕ) → filled (idOf Absent (Present s) []) ≡ beBytes 4 s ++ (beBytes 4 0 ++ beBytes 8 0)
+unfolding filled idOf factorBytes beBytes
+counted-bytes s = refl
+
+-- the ID of a step
+abbrev pub stepId : Bool → ℕ → List ℕ
+stepId timed s = filled (idOf (cond timed (Present s) Absent) (cond timed Absent (Present s)) [])
+
+-- its words are the block
+block-words : (timed : Bool) (s : ℕ) → s < 2 ^ 64 → wordsOf (stepId timed s) ≡ stepBlock timed s
+unfolding stepBlock
+block-words true s h = rw (timed-bytes s) (bytes-words s 0 h (omega arith))
+block-words false s h =
+    let x = s % 2 ^ 32 * 2 ^ 32 in
+    let high : x / 2 ^ 32 ≡ s % 2 ^ 32 = omega arith in
+    let low : x % 2 ^ 32 ≡ 0 = omega arith in
+    let e : beBytes 8 x ≡ beBytes 4 s ++ beBytes 4 0 = beBytes-split 4 4 x ∙ ap₂ (λ (p q : List ℕ). p ++ q) (ap (beBytes 4) high ∙ beBytes-mod 4 s) (sym (beBytes-mod 4 x) ∙ ap (beBytes 4) low) in
+    rw (counted-bytes s, ← append-assoc (beBytes 4 s) (beBytes 4 0) (beBytes 8 0), ← e) (bytes-words x 0 (omega arith) (omega arith) ∙ rw (high, low))
+
+block-below : (timed : Bool) (s : ℕ) → s < 2 ^ 64 → QuadBelow (stepBlock timed s)
+unfolding stepBlock
+block-below true s h = record { a-lt = omega arith; b-lt = omega arith; c-lt = omega arith; d-lt = omega arith }
+block-below false s h = record { a-lt = omega arith; b-lt = omega arith; c-lt = omega arith; d-lt = omega arith }
+
+id-length : (timed : Bool) (s : ℕ) → length (stepId timed s) ≡ 16
+unfolding filled idOf factorBytes beBytes
+id-length true s = refl
+id-length false s = refl
+
+-- one block is not chained
+one-block : (key id : List ℕ) → length id ≡ 16 → chained key id ≡ sm4Of (take 16 key) id
+unfolding chained toBlocks outputOf blockAt
+one-block key id l =
+    let z : (16 - length id % 16) % 16 ≡ 0 = rw l in
+    let e : id ++ replicate ((16 - length id % 16) % 16) 0 ≡ id = rw z (append-nil id) in
+    rw (e, l) (ap (sm4Of (take 16 key)) (take-all 16 id (omega (arith, l))))
+
+reversed-length : (q : Quad) → length (reversed q) ≡ 16
+unfolding reversed
+reversed-length q = simp (length-append, length-beBytes)
+
+-- the words of what R gives have the state's sum
+reversed-cut : (q : Quad) → QuadBelow q → cut (reversed q) ≡ wordsCut q
+unfolding cut wordSum wordsOf
+reversed-cut q h =
+    let w = output-words q (h .a-lt) (h .b-lt) (h .c-lt) (h .d-lt) in
+    let l : length (reversed q) ≡ 16 = reversed-length q in
+    let a : beAt 4 (reversed q) 0 ≡ q .d = sym (ap (λ (x : Quad). x .a) w) in
+    let b : beAt 4 (reversed q) 4 ≡ q .c = sym (ap (λ (x : Quad). x .b) w) in
+    let c : beAt 4 (reversed q) 8 ≡ q .b = sym (ap (λ (x : Quad). x .c) w) in
+    let d : beAt 4 (reversed q) 12 ≡ q .a = sym (ap (λ (x : Quad). x .d) w) in
+    rw (l, a, b, c, d) (ap (λ (n : ℕ). n % 2 ^ 32) (let e : 0 + q .d + q .c + q .b + q .a ≡ q .a + q .b + q .c + q .d = omega arith in e))
+
+-- the law: a step's cut is that of the definition
+pub step-cut : (key : List ℕ) (timed : Bool) (s : ℕ) → s < 2 ^ 64 → cut (chained key (stepId timed s)) ≡ cutBy (prepared 4 key) timed s
+unfolding cutBy sm4Of encryptWith
+step-cut key timed s h =
+    let keys = roundKeys (take 16 key) in
+    let below = steps-below linear linear-lt keys 32 (stepBlock timed s) (block-below timed s h) in
+    rw (one-block key (stepId timed s) (id-length timed s), block-words timed s h) (reversed-cut (steps linear keys 32 (stepBlock timed s)) below)
+
+-- ---- the two kinds of blocks
+
+pub timed-block : (timed : Bool) (s : ℕ) → timed ≡ true → _≡_ {A = Quad} (record { a = s / 2 ^ 32; b = s % 2 ^ 32; c = 0; d = 0 }) (stepBlock timed s)
+unfolding stepBlock
+timed-block timed s t = rw t
+
+pub counted-block : (timed : Bool) (s : ℕ) → timed ≡ false → _≡_ {A = Quad} (record { a = s % 2 ^ 32; b = 0; c = 0; d = 0 }) (stepBlock timed s)
+unfolding stepBlock
+counted-block timed s t = rw t

@@ -1,0 +1,82 @@
+// The cuts of consecutive steps side by side, by SM4 without a challenge, for the proved layers above: ID is then one block.
+use crate::cut::cut_words;
+use lanes::Five;
+use lanes::Three;
+use lanes::first_three;
+use lanes::five_blocks;
+use sm4::Quad;
+ghost use mathlib.Core.Path.{_≡_};
+ghost use Prim.Native.Nat.{_^_, _≤_, _<_};
+ghost use lib.ListN.{length};
+ghost use Rattle.otp.specs.ChainLaws.{prepared};
+ghost use Rattle.otp.specs.StepCuts.{stepBlock, cutsBy};
+
+// The words of a step's block: a time token's T has two, an event token's C one.
+fn block_of(timed: bool, s: u64) -> Quad
+    ensures { λ r. ⌜ r ≡ stepBlock timed s ⌝ }
+{
+    let high = (s / 0x1_0000_0000) as u32;
+    let low = (s % 0x1_0000_0000) as u32;
+    if timed {
+        return Quad {
+            a: high,
+            b: low,
+            c: 0,
+            d: 0,
+        };
+    }
+    Quad {
+        a: low,
+        b: 0,
+        c: 0,
+        d: 0,
+    }
+}
+
+// Those of three steps from s on, under a fresh key. The round keys are left in keys.
+pub fn first_cuts(key: &[u8], timed: bool, s: u64, keys: &mut [u32]) -> [u32; 3]
+    requires { ⌜ 16 ≤ length (now key) ⌝ }
+    requires { ⌜ length (now keys) ≡ 32 ⌝ }
+    requires { ⌜ s < 2 ^ 63 ⌝ }
+    ensures { λ r. ⌜ r ≡ cutsBy (prepared 4 (now (key .entry))) timed 3 s ⌝ }
+    ensures { λ _. ⌜ now (keys .exit) ≡ prepared 4 (now (key .entry)) ⌝ }
+{
+    let blocks = Three {
+        first: block_of(timed, s),
+        second: block_of(timed, s + 1),
+        third: block_of(timed, s + 2),
+    };
+    let states = first_three(&key[0..16], blocks, keys);
+    let a = states.first;
+    let b = states.second;
+    let c = states.third;
+    [cut_words(a), cut_words(b), cut_words(c)]
+}
+
+// Those of five steps from s on, under round keys.
+pub fn next_cuts(keys: &[u32], timed: bool, s: u64) -> [u32; 5]
+    requires { ⌜ length (now keys) ≡ 32 ⌝ }
+    requires { ⌜ s < 2 ^ 63 ⌝ }
+    ensures { λ r. ⌜ r ≡ cutsBy (now (keys .entry)) timed 5 s ⌝ }
+{
+    let blocks = Five {
+        first: block_of(timed, s),
+        second: block_of(timed, s + 1),
+        third: block_of(timed, s + 2),
+        fourth: block_of(timed, s + 3),
+        fifth: block_of(timed, s + 4),
+    };
+    let states = five_blocks(keys, blocks);
+    let a = states.first;
+    let b = states.second;
+    let c = states.third;
+    let d = states.fourth;
+    let e = states.fifth;
+    [
+        cut_words(a),
+        cut_words(b),
+        cut_words(c),
+        cut_words(d),
+        cut_words(e),
+    ]
+}

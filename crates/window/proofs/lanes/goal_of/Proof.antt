@@ -1,0 +1,23 @@
+use Rattle.window.specs.LanesLaws.{goal-single, goal-pair}
+use borrow.Author.Needs.{needs}
+use Rattle.window.proofs.lanes.goal_of.Statement.{statement}
+use Rattle.window.proofs.lanes.goal_of.Tie as tie
+
+ten-to-requires : tie.Need-ten-to-requires
+ten-to-requires c κs = search needs
+
+number-of-requires : tie.Need-number-of-requires
+number-of-requires c κs = search needs
+
+returns : tie.Need-returns
+returns c = goal-single (c .before .before .before .before .before .args .digits) (c .before .before .before .before .before .args .presented .now) (c .before .before .before .before .before .args .following .now) (c .if1 .taken) (c .before .before .ten-to .ensures) (c .before .number-of .ensures)
+
+number-of-requires-2 : tie.Need-number-of-requires-2
+number-of-requires-2 c κs = search needs
+
+returns-2 : tie.Need-returns-2
+returns-2 c = goal-pair (c .before .before .before .before .before .before .args .digits) (c .before .before .before .before .before .before .args .presented .now) (c .before .before .before .before .before .before .args .following .now) (c .before .if1 .left) (c .before .before .before .ten-to .ensures) (c .before .before .number-of .ensures) (c .number-of2 .ensures)
+
+pub goal-of-spec : {M : Type 1} → statement M
+goal-of-spec =
+    tie.close (tie.spec ten-to-requires number-of-requires returns number-of-requires-2 returns-2)
