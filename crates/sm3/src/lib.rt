@@ -10,7 +10,10 @@ use words::bytes::put_be;
 use words::codes::BAD_ARGUMENT;
 use words::codes::DONE;
 ghost use mathlib.Core.Path.{_≡_};
+ghost use Prim.Native.Nat.{_-_, _<_};
+ghost use lib.ListN.{length, take, drop, replicate};
 ghost use Rattle.sm3.specs.Sm3.{iv, digest, sm3Answer};
+ghost use Rattle.sm3.specs.Sm3Laws.{wordTotal, lastValue};
 
 // The eight registers A to H, also the value V that a block changes (5.3).
 pub struct Registers {
@@ -77,10 +80,23 @@ pub fn sm3(message: &[u8]) -> Hash
     let blocks = padding::last_blocks(len);
     let mut end = [0u8; 128];
     padding::put_end(message, blocks, &mut end);
-    let value = iterate(start(), message, len / 64, &t);
-    let last = iterate(value, &end, blocks, &t);
+    let value = iterate(start(), message, len / 64, &t).value;
+    let last = iterate(value, &end, blocks, &t).value;
     Hash {
         code: DONE,
         digest: digest(last),
     }
+}
+
+// For the proved layers above: the sum of the words of a hash, without the carry. The message lies in the first len bytes of m, with
+// zeros behind it, and is padded there.
+pub fn hash_sum(m: &mut [u8], len: usize) -> u32
+    requires { ⌜ length (now m) ≡ 128 ⌝ }
+    requires { ⌜ len < 120 ⌝ }
+    requires { ⌜ drop len (now m) ≡ replicate (128 - len) 0 ⌝ }
+    ensures { λ r. ⌜ r ≡ wordTotal (lastValue (take len (now (m .entry)))) ⌝ }
+{
+    let t = table::constants();
+    let blocks = padding::pad(m, len);
+    iterate(start(), m, blocks, &t).sum
 }
