@@ -3,3 +3,4 @@ pub mod Password
 pub mod PasswordLaws
 pub mod IdLaws
 pub mod ChainLaws
+pub mod HashedLaws
