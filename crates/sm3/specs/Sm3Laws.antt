@@ -84,12 +84,12 @@ four-more n j w r =
     let g : j + suc (suc (suc n)) ≡ j + n + 3 = omega arith in
     rw (add-four, e, f, g)
 
-rounds-from-zero : (n : ℕ) (w : List ℕ) (r : Registers) → rounds n w r ≡ roundsFrom n 0 w r
+pub rounds-from-zero : (n : ℕ) (w : List ℕ) (r : Registers) → rounds n w r ≡ roundsFrom n 0 w r
 unfolding rounds roundsFrom
 rounds-from-zero zero w r = refl
 rounds-from-zero (suc n) w r = rw (zero-add, rounds-from-zero n w r)
 
-rounds-on : (m n j : ℕ) (w : List ℕ) (r : Registers) → roundsFrom m (j + n) w (roundsFrom n j w r) ≡ roundsFrom (n + m) j w r
+pub rounds-on : (m n j : ℕ) (w : List ℕ) (r : Registers) → roundsFrom m (j + n) w (roundsFrom n j w r) ≡ roundsFrom (n + m) j w r
 unfolding roundsFrom
 rounds-on zero n j w r = rw add-zero
 rounds-on (suc m) n j w r = rw (add-suc, ← add-assoc j n m, rounds-on m n j w r)
@@ -143,7 +143,7 @@ next-word-take w j h =
     )
 
 -- the words that were stored are the expansion
-grown-expands : (n : ℕ) (w : List ℕ) → 16 + n ≤ length w → take (16 + n) (grown n w 16) ≡ expand n (take 16 w)
+pub grown-expands : (n : ℕ) (w : List ℕ) → 16 + n ≤ length w → take (16 + n) (grown n w 16) ≡ expand n (take 16 w)
 unfolding grown expand
 grown-expands zero w h = refl
 grown-expands (suc n) w h =
@@ -284,7 +284,7 @@ end-of m blocks {copied} {end} b p q =
 
 -- ---- iteration
 
-words-append : (n : ℕ) (s t : List ℕ) (at : ℕ) → at + 4 * n ≤ length s → wordsAt n (s ++ t) at ≡ wordsAt n s at
+pub words-append : (n : ℕ) (s t : List ℕ) (at : ℕ) → at + 4 * n ≤ length s → wordsAt n (s ++ t) at ≡ wordsAt n s at
 unfolding wordsAt
 words-append zero s t at h = refl
 words-append (suc n) s t at h =
@@ -320,7 +320,7 @@ iterated-padded : (n : ℕ) (m : List ℕ) (v : Registers) → 64 * n ≤ length
 unfolding padded
 iterated-padded n m v h = iterated-append n m (0x80 ∷ (replicate (zerosAfter (length m)) 0 ++ beBytes 8 (8 * length m))) v h
 
-length-padded : (m : List ℕ) → length (padded m) ≡ 64 * (length m / 64 + lastBlocks (length m))
+pub length-padded : (m : List ℕ) → length (padded m) ≡ 64 * (length m / 64 + lastBlocks (length m))
 unfolding padded
 length-padded m =
     let fill : length m % 64 + 9 + zerosAfter (length m) ≡ 64 * lastBlocks (length m) = last-blocks-fill (length m) in
