@@ -51,7 +51,7 @@ cut-digest r =
     let seventh = word-more six (r .a + r .b + r .c + r .d + r .e + r .f) (r .g) sixth in
     rw (zero-add, a, b, c, d, e, f, g, h) (word-more (six + r .g % 2 ^ 32) (r .a + r .b + r .c + r .d + r .e + r .f + r .g) (r .h) seventh)
 
-cut-hash : (m : List ℕ) → cut (sm3Of m) ≡ wordTotal (lastValue m)
+pub cut-hash : (m : List ℕ) → cut (sm3Of m) ≡ wordTotal (lastValue m)
 unfolding sm3Of lastValue
 cut-hash m = cut-digest (lastValue m)
 
@@ -79,7 +79,8 @@ module _ (key id : List ℕ) {first all : List ℕ} {at end : ℕ} (k : length k
   pub laid-behind : drop end all ≡ replicate (128 - end) 0
   laid-behind = rw laid (drop-at (key ++ filled id) (replicate (128 - end) 0) end message-length)
 
+  pub laid-message : take end all ≡ key ++ filled id
+  laid-message = rw laid (take-at (key ++ filled id) (replicate (128 - end) 0) end message-length)
+
   pub hashed-of : {r : ℕ} → r ≡ wordTotal (lastValue (take end all)) → r ≡ cut (sm3Of (key ++ filled id))
-  hashed-of h =
-      let m : take end all ≡ key ++ filled id = rw laid (take-at (key ++ filled id) (replicate (128 - end) 0) end message-length) in
-      h ∙ rw m (sym (cut-hash (key ++ filled id)))
+  hashed-of h = h ∙ rw laid-message (sym (cut-hash (key ++ filled id)))

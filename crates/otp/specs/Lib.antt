@@ -4,3 +4,4 @@ pub mod PasswordLaws
 pub mod IdLaws
 pub mod ChainLaws
 pub mod HashedLaws
+pub mod StepLaws

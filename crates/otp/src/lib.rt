@@ -5,6 +5,7 @@ mod cut;
 mod id;
 mod once;
 pub mod prepared;
+pub mod steps;
 
 pub use arguments::arguments_ok;
 pub use arguments::challenge_ok;
