@@ -2,6 +2,7 @@
 use crate::Factor;
 use crate::id::put_bytes;
 use crate::id::put_id;
+use crate::prepared::hashed;
 use sm3::four_sums;
 use sm3::put_message;
 ghost use mathlib.Core.Path.{_≡_};
@@ -10,7 +11,7 @@ ghost use Prim.Native.Nat.{_^_, _≤_, _<_};
 ghost use lib.ListN.{length};
 ghost use Rattle.sm3.specs.FourLaws.{Message};
 ghost use Rattle.otp.specs.Password.{filled};
-ghost use Rattle.otp.specs.StepLaws.{timeAt, countAt, stepId, hashedCuts};
+ghost use Rattle.otp.specs.StepLaws.{timeAt, countAt, stepId, hashedCut, hashedCuts};
 
 // A time token's step is its time factor T, an event token's its count C.
 fn time_at(timed: bool, s: u64) -> Factor
@@ -31,6 +32,17 @@ fn count_at(timed: bool, s: u64) -> Factor
     } else {
         Factor::Present(s)
     }
+}
+
+// The cut of step s.
+pub fn hashed_cut(key: &[u8], timed: bool, s: u64) -> u32
+    requires { ⌜ length (now key) ≤ 32 ⌝ }
+    ensures { λ r. ⌜ r ≡ hashedCut (now (key .entry)) timed s ⌝ }
+{
+    let none = [0u8; 0];
+    let time = time_at(timed, s);
+    let count = count_at(timed, s);
+    hashed(key, time, count, &none)
 }
 
 // Puts key and ID of step s where message l stands.
