@@ -6,7 +6,7 @@ use crate::cut::cut_words;
 use crate::cut::put_decimals;
 use crate::id::put_bytes;
 use crate::id::put_id;
-use sm3::hash_sum;
+use sm3::sums::hash_sum;
 use sm4::encrypt_words;
 use sm4::round_keys;
 ghost use mathlib.Core.Path.{_≡_};

@@ -4,6 +4,7 @@ mod compress;
 mod four;
 mod padding;
 mod round;
+pub mod sums;
 mod table;
 
 use compress::iterate;
@@ -11,11 +12,7 @@ use words::bytes::put_be;
 use words::codes::BAD_ARGUMENT;
 use words::codes::DONE;
 ghost use mathlib.Core.Path.{_≡_};
-ghost use Prim.Native.Nat.{_-_, _<_};
-ghost use lib.ListN.{length, take, drop, replicate};
 ghost use Rattle.sm3.specs.Sm3.{iv, digest, sm3Answer};
-ghost use Rattle.sm3.specs.Sm3Laws.{wordTotal, lastValue};
-ghost use Rattle.sm3.specs.FourLaws.{Message, laneSums};
 
 // The eight registers A to H, also the value V that a block changes (5.3).
 pub struct Registers {
@@ -88,49 +85,4 @@ pub fn sm3(message: &[u8]) -> Hash
         code: DONE,
         digest: digest(last),
     }
-}
-
-// For the proved layers above: the sum of the words of a hash, without the carry. The message lies in the first len bytes of m, with
-// zeros behind it, and is padded there.
-pub fn hash_sum(m: &mut [u8], len: usize) -> u32
-    requires { ⌜ length (now m) ≡ 128 ⌝ }
-    requires { ⌜ len < 120 ⌝ }
-    requires { ⌜ drop len (now m) ≡ replicate (128 - len) 0 ⌝ }
-    ensures { λ r. ⌜ r ≡ wordTotal (lastValue (take len (now (m .entry)))) ⌝ }
-{
-    let t = table::constants();
-    let blocks = padding::pad(m, len);
-    iterate(start(), m, blocks, &t).sum
-}
-
-// For the proved layers above: four messages of at most 55 bytes side by side, whose words stand in w. Message l lies in the first len
-// bytes of m, with zeros behind it, and is padded there.
-pub fn put_message(w: &mut [u32], l: usize, m: &mut [u8], len: usize)
-    requires { ⌜ l < 4 ⌝ }
-    requires { ⌜ length (now w) ≡ 320 ⌝ }
-    requires { ⌜ length (now m) ≡ 128 ⌝ }
-    requires { ⌜ len < 56 ⌝ }
-    requires { ⌜ drop len (now m) ≡ replicate (128 - len) 0 ⌝ }
-    ensures { λ _. ⌜ Message l (take len (now (m .entry))) (now (w .entry)) (now (w .exit)) ⌝ }
-{
-    padding::pad(m, len);
-    four::put_block(w, l, m);
-}
-
-// The sums of the words of their hashes, without the carry.
-pub fn four_sums(w: &mut [u32]) -> [u32; 4]
-    requires { ⌜ length (now w) ≡ 320 ⌝ }
-    ensures { λ r. ⌜ r ≡ laneSums (now (w .entry)) ⌝ }
-{
-    let t = table::constants();
-    let v = start();
-    let mut s = four::spread(v);
-    four::early_rounds(&mut s, w, &t);
-    four::late_rounds(&mut s, w, &t);
-    [
-        four::sum_at(&s, 0, v),
-        four::sum_at(&s, 1, v),
-        four::sum_at(&s, 2, v),
-        four::sum_at(&s, 3, v),
-    ]
 }

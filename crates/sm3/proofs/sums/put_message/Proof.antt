@@ -3,8 +3,8 @@ use native.Mathlib.Omega.{arith}
 use lib.ListN.{take, replicate}
 use Rattle.sm3.specs.FourLaws.{message-of}
 use borrow.Author.Needs.{needs}
-use Rattle.sm3.proofs.put_message.Statement.{statement}
-use Rattle.sm3.proofs.put_message.Tie as tie
+use Rattle.sm3.proofs.sums.put_message.Statement.{statement}
+use Rattle.sm3.proofs.sums.put_message.Tie as tie
 
 pad-requires : tie.Need-pad-requires
 pad-requires c κs = search needs

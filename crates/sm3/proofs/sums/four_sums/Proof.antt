@@ -2,8 +2,8 @@ use mathlib.Core.Path.{_∙_}
 use native.Mathlib.Omega.{arith}
 use Rattle.sm3.specs.FourLaws.{lane-sum, all-sums}
 use borrow.Author.Needs.{needs}
-use Rattle.sm3.proofs.four_sums.Statement.{statement}
-use Rattle.sm3.proofs.four_sums.Tie as tie
+use Rattle.sm3.proofs.sums.four_sums.Statement.{statement}
+use Rattle.sm3.proofs.sums.four_sums.Tie as tie
 
 constants-requires : tie.Need-constants-requires
 constants-requires c κs = search needs

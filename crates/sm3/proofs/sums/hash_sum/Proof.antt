@@ -2,8 +2,8 @@ use borrow.Author.Needs.{needs}
 use mathlib.Core.Path.{ap, _∙_}
 use native.Mathlib.Omega.{arith}
 use Rattle.sm3.specs.Sm3Laws.{padded-fits, wordTotal, hash-sum-of}
-use Rattle.sm3.proofs.hash_sum.Statement.{statement}
-use Rattle.sm3.proofs.hash_sum.Tie as tie
+use Rattle.sm3.proofs.sums.hash_sum.Statement.{statement}
+use Rattle.sm3.proofs.sums.hash_sum.Tie as tie
 
 constants-requires : tie.Need-constants-requires
 constants-requires c κs = search needs
