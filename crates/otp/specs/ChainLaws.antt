@@ -5,16 +5,13 @@ use mathlib.Core.Path.{_≡_, refl, sym, ap, _∙_}
 use mathlib.Core.List.{List, _++_, append-assoc}
 use native.Mathlib.Nat.{mod-add-mod, not-suc-le-zero, zero-add}
 use native.Mathlib.Omega.{arith}
-use borrow.Author.Tests.{ltb-true, ltb-false, ne-eqb, lt-ltb}
+use borrow.Author.Tests.{ltb-true, ltb-false, ne-eqb}
 use lib.Dec.{ltb, eqb}
-use lib.ListN.{length, take, drop, replicate, length-append, length-take, length-drop, length-replicate, replicate-append-replicate}
-use lib.Seq.{length-take-le, take-at, drop-append-le, take-append-le}
+use lib.ListN.{length, take, drop, replicate, length-append, length-drop, length-replicate, replicate-append-replicate}
+use lib.Seq.{length-take-le, drop-append-le, take-append-le}
 use Rattle.words.specs.ListsLaws.{drop-zeros, by-test}
 use Rattle.words.specs.Bytes.{beAt, beBytes, put}
 use Rattle.words.specs.BytesLaws.{length-beBytes, beAt-split, beBytes-split, beBytes-mod}
-use Rattle.words.specs.PutLaws.{put-on}
-use Rattle.sm3.specs.Sm3.{sm3Of, sm3Answer}
-use Rattle.sm3.specs.declared.Hash.{Hash}
 use Rattle.sm4.specs.Sm4.{wordsOf, encryptWith, reversed, roundKeys, sm4Of, keysAnswer, encryptWordsAnswer, firstAnswer}
 use Rattle.sm4.specs.Sm4Laws.{length-roundKeys}
 use Rattle.sm4.specs.ReturnLaws.{output-words}
@@ -154,25 +151,8 @@ chain-outputs key s (suc i) = rw (chain-outputs key s i)
 
 -- ---- the buffers
 
-zeros-laid : (n : ℕ) (b : List ℕ) → length b ≤ n → put (replicate n 0) 0 b ≡ b ++ replicate (n - length b) 0
+pub zeros-laid : (n : ℕ) (b : List ℕ) → length b ≤ n → put (replicate n 0) 0 b ≡ b ++ replicate (n - length b) 0
 zeros-laid n b h = rw (zero-add, drop-zeros (length b) n)
-
--- key and ID laid into zeros, up to the end of the filled ID
-pub hashed-bytes : (key id : List ℕ) (n : ℕ) {first all : List ℕ} → length key + max 16 (length id) ≤ n → first ≡ put (replicate n 0) 0 key
-    → all ≡ put first (0 + length key) id → take (0 + length key + max 16 (length id) - 0) (drop 0 all) ≡ key ++ filled id
-unfolding filled
-hashed-bytes key id n {first} {all} h p q =
-    let z = replicate {A = ℕ} n 0 in
-    let laid : all ≡ (key ++ id) ++ replicate (n - length (key ++ id)) 0 =
-    q ∙ rw p (put-on z 0 key id (rw (length-replicate n) (omega arith)) ∙ zeros-laid n (key ++ id) (rw length-append (omega arith))) in
-    let parts : replicate {A = ℕ} (n - length (key ++ id)) 0 ≡ replicate (16 - length id) 0 ++ replicate (n - length key - max 16 (length id)) 0 =
-    (let e : n - length (key ++ id) ≡ (16 - length id) + (n - length key - max 16 (length id)) = rw length-append (omega arith) in
-    rw e (sym (replicate-append-replicate (16 - length id) (n - length key - max 16 (length id)) 0))) in
-    let whole : all ≡ (key ++ (id ++ replicate (16 - length id) 0)) ++ replicate (n - length key - max 16 (length id)) 0 =
-    laid ∙ rw parts (simp append-assoc) in
-    rw whole
-    (take-at (key ++ (id ++ replicate (16 - length id) 0)) (replicate (n - length key - max 16 (length id)) 0) (0 + length key + max 16 (length id) - 0)
-    (rw (length-append, length-append, length-replicate) (omega arith)))
 
 -- the ID laid into zeros begins with the definition's blocks
 chained-of : (key id : List ℕ) {keys buffer : List ℕ} {blocks : ℕ} → length id ≤ 44 → keys ≡ prepared 4 key
@@ -211,18 +191,6 @@ prepared-hash algorithm key h = (refl, rw (ne-eqb algorithm algorithmSm4 h))
 pub block-length : (s : List ℕ) (i : ℕ) → 16 * i + 16 ≤ length s → length (blockAt s i) ≡ 16
 unfolding blockAt
 block-length s i h = length-take-le 16 (drop (16 * i) s) (rw length-drop (omega arith))
-
--- the hash of what was laid
-pub hashed-of : (key id : List ℕ) {first buffer : List ℕ} {at end : ℕ} {h : Hash} {r : ℕ} → length key ≤ 32 → length id ≤ 44
-    → at ≡ 0 + length key → first ≡ put (replicate 76 0) 0 key → end ≡ at + max 16 (length id) → buffer ≡ put first at id
-    → h ≡ sm3Answer (take (end - 0) (drop 0 buffer)) → r ≡ cut (h .digest) → r ≡ cut (sm3Of (key ++ filled id))
-unfolding sm3Answer
-hashed-of key id {first} {buffer} {at} {end} {h} {r} k l a f e b s c =
-    let m : take (end - 0) (drop 0 buffer) ≡ key ++ filled id =
-    rw (e, a) (hashed-bytes key id 76 (omega arith) f (rw a at b)) in
-    let small : length (key ++ filled id) < 2 ^ 32 = rw (← m, length-take) (omega arith) in
-    let d : h .digest ≡ sm3Of (key ++ filled id) = rw (s, m, lt-ltb (length (key ++ filled id)) (2 ^ 32) small) in
-    c ∙ rw d
 
 -- ---- a key that is used once
 

@@ -7,3 +7,5 @@ pub mod StepCuts
 pub mod StepCutsLaws
 pub mod Numbers
 pub mod NumbersLaws
+pub mod HashedLaws
+pub mod StepLaws

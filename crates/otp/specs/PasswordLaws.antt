@@ -3,7 +3,7 @@ use Prim.Native.Nat.{ℕ, zero, suc, _+_, _-_, _*_, _/_, _%_, _^_, _≤_, _<_}
 use mathlib.Core.Path.{_≡_, refl, _∙_}
 use mathlib.Core.Bool.{Bool, true, false, _&&_, _||_}
 use mathlib.Core.List.{List, [], _∷_, _++_, append-assoc}
-use native.Mathlib.Nat.{mod-add-mod, mod-lt, one-le-pow, pow-suc, zero-lt-suc, not-suc-le-zero}
+use native.Mathlib.Nat.{mod-lt, one-le-pow, pow-suc, zero-lt-suc, not-suc-le-zero}
 use native.Mathlib.Numerals.{add-one}
 use native.Mathlib.Omega.{arith}
 use borrow.Author.Tests.{eq-eqb, ne-eqb, eqb-true, leb-true}
@@ -12,22 +12,12 @@ use lib.Dec.{eqb, leb}
 use lib.ListN.{length, getD, set, drop, length-append, length-set}
 use lib.Seq.{drop-cons, drop-set-lt, getD-set-same}
 use Rattle.words.specs.Lists.{allWithin}
-use Rattle.words.specs.Bytes.{beAt}
 use Rattle.words.specs.Codes.{done, badArgument}
 use Rattle.words.specs.OutputLaws.{stored-refusal, stored-short, stored-whole}
 use Rattle.words.specs.Tables.{and-left, and-right}
 use Rattle.sm3.specs.Sm3.{sm3Of}
 use Rattle.otp.specs.declared.Factor.{Factor}
-use Rattle.otp.specs.Password.{challengeOk, argumentsOk, idOf, filled, keyed, chained, wordSum, cut, decimals, shown, passwordOf, passwordAnswer, algorithmSm3, algorithmSm4}
-
--- one more word is added
-pub sum-more : (s : List ℕ) (i : ℕ) {sum w r : ℕ} → sum ≡ wordSum i s % 2 ^ 32 → w ≡ beAt 4 s (4 * i) → r ≡ (sum + w) % 2 ^ 32 → r ≡ wordSum (i + 1) s % 2 ^ 32
-unfolding wordSum
-sum-more s i p q e = rw (e, p, q, add-one) (mod-add-mod (wordSum i s) (2 ^ 32) (beAt 4 s (4 * i)))
-
-pub cut-end : (s : List ℕ) (i : ℕ) {sum : ℕ} → i ≡ length s / 4 → sum ≡ wordSum i s % 2 ^ 32 → sum ≡ cut s
-unfolding cut
-cut-end s i e p = rw e at p
+use Rattle.otp.specs.Password.{challengeOk, argumentsOk, idOf, filled, keyed, chained, cut, decimals, shown, passwordOf, passwordAnswer, algorithmSm3, algorithmSm4}
 
 -- the last of the digits left is stored
 pub decimals-last : (out : List ℕ) (left rest : ℕ) → 0 < left → left ≤ length out

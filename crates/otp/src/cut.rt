@@ -1,28 +1,13 @@
 // The cut (6.3): the sum of an output's words, and its last decimal digits.
 use sm4::Quad;
 use std::num::wrapping_add_u32 as add;
-use words::bytes::word_at;
 ghost use mathlib.Core.Path.{_≡_};
 ghost use mathlib.Core.List.{_++_};
 ghost use Prim.Native.Nat.{_+_, _%_, _^_, _≤_};
 ghost use lib.ListN.{length, drop};
-ghost use Rattle.otp.specs.Password.{cut, decimals};
+ghost use Rattle.otp.specs.Password.{decimals};
 
-// The sum of all 4-byte words, without the carry.
-pub(crate) fn cut(output: &[u8]) -> u32
-    ensures { λ r. ⌜ r ≡ cut (now (output .entry)) ⌝ }
-{
-    let words = output.len() / 4;
-    let mut sum: u32 = 0;
-    let mut i = 0;
-    while i < words {
-        sum = add(sum, word_at(output, 4 * i));
-        i += 1;
-    }
-    sum
-}
-
-// The same for an output of four words.
+// The sum of the words of an output of four, without the carry.
 pub(crate) fn cut_words(w: Quad) -> u32
     ensures { λ r. ⌜ r ≡ (w .a + w .b + w .c + w .d) % 2 ^ 32 ⌝ }
 {

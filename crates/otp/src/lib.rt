@@ -7,6 +7,7 @@ mod id;
 pub mod number;
 mod once;
 pub mod prepared;
+pub mod steps;
 
 pub use arguments::arguments_ok;
 pub use arguments::challenge_ok;

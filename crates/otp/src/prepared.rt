@@ -2,12 +2,11 @@
 use crate::Factor;
 use crate::chain::chain;
 use crate::chain::words_of;
-use crate::cut::cut;
 use crate::cut::cut_words;
 use crate::cut::put_decimals;
 use crate::id::put_bytes;
 use crate::id::put_id;
-use sm3::sm3;
+use sm3::sums::hash_sum;
 use sm4::encrypt_words;
 use sm4::round_keys;
 ghost use mathlib.Core.Path.{_≡_};
@@ -37,11 +36,10 @@ pub(crate) fn hashed(key: &[u8], time: Factor, count: Factor, challenge: &[u8]) 
     requires { ⌜ length (now challenge) ≤ 32 ⌝ }
     ensures { λ r. ⌜ r ≡ cut (sm3Of (now (key .entry) ++ filled (idOf time count (now (challenge .entry))))) ⌝ }
 {
-    let mut buffer = [0u8; 76];
+    let mut buffer = [0u8; 128];
     let at = put_bytes(&mut buffer, 0, key);
     let end = put_id(&mut buffer, at, time, count, challenge);
-    let digest = sm3(&buffer[0..end]).digest;
-    cut(&digest)
+    hash_sum(&mut buffer, end)
 }
 
 // The SM4 way (6.2.3), cut.

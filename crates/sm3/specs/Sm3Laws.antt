@@ -8,11 +8,11 @@ use native.Mathlib.Numerals.{add-one, add-four}
 use native.Mathlib.Omega.{arith}
 use borrow.Author.Tests.{lt-ltb, le-ltb, ltb-true, ltb-false, eqb-true}
 use lib.Dec.{ltb, eqb}
-use lib.ListN.{length, getD, set, take, drop, replicate, length-set, length-append, length-drop, length-replicate, replicate-append-replicate, List·getD-append}
-use lib.Seq.{getD-take, getD-drop, getD-set-other, take-all, take-length, take-suc-set, set-at, set-out, drop-append-le}
+use lib.ListN.{length, getD, set, take, drop, replicate, length-set, length-append, length-drop, length-replicate, replicate-append-replicate, take-append-drop, List·getD-append}
+use lib.Seq.{getD-take, getD-drop, getD-set-other, take-all, take-length, length-take-le, take-suc-set, set-at, set-out, drop-append-le}
 use Rattle.words.specs.ListsLaws.{drop-zeros, by-test}
 use Rattle.words.specs.Bytes.{beAt, beBytes, putBe}
-use Rattle.words.specs.BytesLaws.{beAt-agree, length-beBytes, putBe-seam}
+use Rattle.words.specs.BytesLaws.{beAt-agree, length-beBytes, putBe-seam, beBytes-split}
 use Rattle.words.specs.Codes.{done, badArgument}
 use Rattle.words.specs.Words.{_⊕_, _⋘_}
 use Rattle.words.specs.Tables.{entry-rule}
@@ -84,12 +84,12 @@ four-more n j w r =
     let g : j + suc (suc (suc n)) ≡ j + n + 3 = omega arith in
     rw (add-four, e, f, g)
 
-rounds-from-zero : (n : ℕ) (w : List ℕ) (r : Registers) → rounds n w r ≡ roundsFrom n 0 w r
+pub rounds-from-zero : (n : ℕ) (w : List ℕ) (r : Registers) → rounds n w r ≡ roundsFrom n 0 w r
 unfolding rounds roundsFrom
 rounds-from-zero zero w r = refl
 rounds-from-zero (suc n) w r = rw (zero-add, rounds-from-zero n w r)
 
-rounds-on : (m n j : ℕ) (w : List ℕ) (r : Registers) → roundsFrom m (j + n) w (roundsFrom n j w r) ≡ roundsFrom (n + m) j w r
+pub rounds-on : (m n j : ℕ) (w : List ℕ) (r : Registers) → roundsFrom m (j + n) w (roundsFrom n j w r) ≡ roundsFrom (n + m) j w r
 unfolding roundsFrom
 rounds-on zero n j w r = rw add-zero
 rounds-on (suc m) n j w r = rw (add-suc, ← add-assoc j n m, rounds-on m n j w r)
@@ -143,7 +143,7 @@ next-word-take w j h =
     )
 
 -- the words that were stored are the expansion
-grown-expands : (n : ℕ) (w : List ℕ) → 16 + n ≤ length w → take (16 + n) (grown n w 16) ≡ expand n (take 16 w)
+pub grown-expands : (n : ℕ) (w : List ℕ) → 16 + n ≤ length w → take (16 + n) (grown n w 16) ≡ expand n (take 16 w)
 unfolding grown expand
 grown-expands zero w h = refl
 grown-expands (suc n) w h =
@@ -284,7 +284,7 @@ end-of m blocks {copied} {end} b p q =
 
 -- ---- iteration
 
-words-append : (n : ℕ) (s t : List ℕ) (at : ℕ) → at + 4 * n ≤ length s → wordsAt n (s ++ t) at ≡ wordsAt n s at
+pub words-append : (n : ℕ) (s t : List ℕ) (at : ℕ) → at + 4 * n ≤ length s → wordsAt n (s ++ t) at ≡ wordsAt n s at
 unfolding wordsAt
 words-append zero s t at h = refl
 words-append (suc n) s t at h =
@@ -320,7 +320,7 @@ iterated-padded : (n : ℕ) (m : List ℕ) (v : Registers) → 64 * n ≤ length
 unfolding padded
 iterated-padded n m v h = iterated-append n m (0x80 ∷ (replicate (zerosAfter (length m)) 0 ++ beBytes 8 (8 * length m))) v h
 
-length-padded : (m : List ℕ) → length (padded m) ≡ 64 * (length m / 64 + lastBlocks (length m))
+pub length-padded : (m : List ℕ) → length (padded m) ≡ 64 * (length m / 64 + lastBlocks (length m))
 unfolding padded
 length-padded m =
     let fill : length m % 64 + 9 + zerosAfter (length m) ≡ 64 * lastBlocks (length m) = last-blocks-fill (length m) in
@@ -339,6 +339,79 @@ sm3-of m rest blocks {end} {value} {last} b e v l =
     let all : last ≡ iterated (whole + blocks) (padded m) iv =
     l ∙ rw (e, iterated-append blocks (drop (64 * whole) (padded m)) rest value room, first) (iterated-on blocks whole (padded m) iv) in
     rw (all, total)
+
+-- the value V after the last block
+unfoldable pub lastValue : List ℕ → Registers
+lastValue m = let p = padded m in iterated (length p / 64) p iv
+
+-- the sum of a value's words, modulo 2^32
+abbrev pub wordTotal : Registers → ℕ
+wordTotal r = (r .a + r .b + r .c + r .d + r .e + r .f + r .g + r .h) % 2 ^ 32
+
+-- a sum whose terms wrapped wraps to the same
+wrapped-sum : (x y : ℕ) {p q s : ℕ} → p ≡ x % 2 ^ 32 → q ≡ y % 2 ^ 32 → s ≡ (p + q) % 2 ^ 32 → s ≡ (x + y) % 2 ^ 32
+wrapped-sum x y p q e = omega arith
+
+-- the words added two by two
+pub total-of : (r : Registers) {ab cd ef gh left right s : ℕ} → ab ≡ (r .a + r .b) % 2 ^ 32 → cd ≡ (r .c + r .d) % 2 ^ 32 → left ≡ (ab + cd) % 2 ^ 32
+    → ef ≡ (r .e + r .f) % 2 ^ 32 → gh ≡ (r .g + r .h) % 2 ^ 32 → right ≡ (ef + gh) % 2 ^ 32 → s ≡ (left + right) % 2 ^ 32 → s ≡ wordTotal r
+total-of r ab cd left ef gh right s =
+    let sum : r .a + r .b + (r .c + r .d) + (r .e + r .f + (r .g + r .h)) ≡ r .a + r .b + r .c + r .d + r .e + r .f + r .g + r .h = omega arith in
+    wrapped-sum (r .a + r .b + (r .c + r .d)) (r .e + r .f + (r .g + r .h))
+    (wrapped-sum (r .a + r .b) (r .c + r .d) ab cd left) (wrapped-sum (r .e + r .f) (r .g + r .h) ef gh right) s
+    ∙ ap (λ (n : ℕ). n % 2 ^ 32) sum
+
+-- a length below 2^16 has two bytes
+short-length : (x : ℕ) → x < 2 ^ 16 → beBytes 8 x ≡ replicate 6 0 ++ beBytes 2 x
+unfolding beBytes
+short-length x h = let e : x / 256 ^ 2 ≡ 0 = omega arith in beBytes-split 6 2 x ∙ rw e
+
+-- two blocks have room for a message of less than 120 bytes, padded
+pub padded-fits : (l : ℕ) → l < 120 → 64 * (l / 64 + lastBlocks l) ≤ 128
+unfolding lastBlocks
+padded-fits l h =
+    by-test (ltb (l % 64) 56)
+    (λ t. let m : l % 64 < 56 = ltb-true (l % 64) 56 t in rw t (omega arith))
+    (λ t. let m : 56 ≤ l % 64 = ltb-false (l % 64) 56 t in rw t (omega arith))
+
+-- the message with zeros behind it, padded where it lies
+pub padded-in-place : (m : List ℕ) (len blocks : ℕ) {end : List ℕ} → length m ≡ 128 → len < 120 → drop len m ≡ replicate (128 - len) 0
+    → blocks ≡ len / 64 + lastBlocks len → end ≡ putBe 2 (set m len 0x80) (64 * blocks - 2) (8 * len)
+    → end ≡ padded (take len m) ++ replicate {A = ℕ} (128 - 64 * blocks) 0
+unfolding padded
+padded-in-place m len blocks {end} l h d b e =
+    let msg = take len m in
+    let n = 64 * blocks in
+    let z = zerosAfter len in
+    let lm : length msg ≡ len = length-take-le len m (omega arith) in
+    let fill : len + 9 + z ≡ n = (let f = last-blocks-fill len in omega arith) in
+    let room : n ≤ 128 = rw b (padded-fits len h) in
+    let zeros : replicate {A = ℕ} (128 - len) 0 ≡ 0 ∷ (replicate z 0 ++ (replicate 6 0 ++ (replicate 2 0 ++ replicate (128 - n) 0))) =
+    (let k : 128 - len ≡ suc (z + (6 + (2 + (128 - n)))) = omega arith in
+    rw (k, replicate-append-replicate 2 (128 - n), replicate-append-replicate 6 (2 + (128 - n)), replicate-append-replicate z (6 + (2 + (128 - n))))) in
+    let whole : m ≡ msg ++ (0 ∷ (replicate z 0 ++ (replicate 6 0 ++ (replicate 2 0 ++ replicate (128 - n) 0)))) =
+    sym (take-append-drop len m) ∙ ap (λ (s : List ℕ). msg ++ s) (d ∙ zeros) in
+    let front = msg ++ (0x80 ∷ (replicate z 0 ++ replicate 6 0)) in
+    let stored : set m len 0x80 ≡ front ++ (replicate 2 0 ++ replicate (128 - n) 0) =
+    ap (λ (s : List ℕ). set s len 0x80) whole
+    ∙ set-at msg 0 (replicate z 0 ++ (replicate 6 0 ++ (replicate 2 0 ++ replicate (128 - n) 0))) 0x80 len lm
+    ∙ simp append-assoc in
+    let place : length front ≡ n - 2 = rw (length-append, lm, length-append, length-replicate z, length-replicate 6) (omega arith) in
+    rw (e, stored, lm)
+    (putBe-seam 2 front (replicate 2 0) (replicate (128 - n) 0) (n - 2) (8 * len) place refl
+    ∙ rw (short-length (8 * len) (omega arith)) (simp append-assoc))
+
+-- the blocks of the message in the first len bytes, padded where they lie, give the last value
+pub hash-sum-of : (m : List ℕ) (len : ℕ) {blocks : ℕ} {all : List ℕ} {start last : Registers} → length m ≡ 128 → len < 120 → blocks ≡ len / 64 + lastBlocks len
+    → all ≡ padded (take len m) ++ replicate {A = ℕ} (128 - 64 * blocks) 0 → start ≡ iv → last ≡ iterated blocks all start → last ≡ lastValue (take len m)
+unfolding lastValue
+hash-sum-of m len {blocks} {all} {start} {last} l h b a s e =
+    let msg = take len m in
+    let lm : length msg ≡ len = length-take-le len m (omega arith) in
+    let size : length (padded msg) ≡ 64 * blocks = length-padded msg ∙ rw (lm, b) in
+    let total : length (padded msg) / 64 ≡ blocks = rw size (omega arith) in
+    let room : 64 * blocks ≤ length (padded msg) = omega arith in
+    e ∙ rw (a, s, iterated-append blocks (padded msg) (replicate (128 - 64 * blocks) 0) iv room, total)
 
 pub answer-hashed : (m : List ℕ) {d : List ℕ} → length m < 2 ^ 32 → d ≡ sm3Of m → _≡_ {A = Hash} (record { code = done; digest = d }) (sm3Answer m)
 unfolding sm3Answer

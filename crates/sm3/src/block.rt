@@ -23,7 +23,7 @@ pub(crate) fn load(m: &[u8], at: usize) -> [u32; 68]
 }
 
 // The permutation P1.
-fn p1(x: u32) -> u32
+pub(crate) fn p1(x: u32) -> u32
     ensures { λ r. ⌜ r ≡ p1 x ⌝ }
 {
     x ^ rotate_left(x, 15) ^ rotate_left(x, 23)

@@ -5,11 +5,12 @@ use crate::block::grow_four;
 use crate::block::load;
 use crate::round::four_early;
 use crate::round::four_late;
+use std::num::wrapping_add_u32 as add;
 ghost use mathlib.Core.Path.{_≡_};
 ghost use Prim.Native.Nat.{_+_, _*_, _≤_};
 ghost use lib.ListN.{length};
 ghost use Rattle.sm3.specs.Sm3.{wordsAt, xored, compressed, iterated};
-ghost use Rattle.sm3.specs.Sm3Laws.{constants, grown, roundsFrom};
+ghost use Rattle.sm3.specs.Sm3Laws.{constants, grown, roundsFrom, wordTotal};
 
 // The rounds 0 to 15, and the words W_16 to W_31.
 fn early_rounds(v: Registers, w: &mut [u32], t: &[u32]) -> Registers
@@ -45,7 +46,7 @@ fn late_rounds(v: Registers, w: &mut [u32], t: &[u32]) -> Registers
     r
 }
 
-fn xored(r: Registers, v: Registers) -> Registers
+pub(crate) fn xored(r: Registers, v: Registers) -> Registers
     ensures { λ q. ⌜ q ≡ xored r v ⌝ }
 {
     Registers {
@@ -72,11 +73,28 @@ fn compress(v: Registers, m: &[u8], at: usize, t: &[u32]) -> Registers
     xored(late, v)
 }
 
+// The sum of the words without the carry.
+pub(crate) fn word_sum(r: Registers) -> u32
+    ensures { λ s. ⌜ s ≡ wordTotal r ⌝ }
+{
+    let left = add(add(r.a, r.b), add(r.c, r.d));
+    let right = add(add(r.e, r.f), add(r.g, r.h));
+    add(left, right)
+}
+
+// A value V with the sum of its words. The sum is made while the words are at hand: stored one by one and read back all at
+// once they would be waited for.
+pub struct Summed {
+    pub value: Registers,
+    pub sum: u32,
+}
+
 // The first n blocks of m, one after the other.
-pub(crate) fn iterate(v: Registers, m: &[u8], n: usize, t: &[u32]) -> Registers
+pub(crate) fn iterate(v: Registers, m: &[u8], n: usize, t: &[u32]) -> Summed
     requires { ⌜ 64 * n ≤ length (now m) ⌝ }
     requires { ⌜ now t ≡ constants ⌝ }
-    ensures { λ q. ⌜ q ≡ iterated n (now (m .entry)) v ⌝ }
+    ensures { λ q. ⌜ q .value ≡ iterated n (now (m .entry)) v ⌝ }
+    ensures { λ q. ⌜ q .sum ≡ wordTotal (q .value) ⌝ }
 {
     let mut value = v;
     let mut i = 0;
@@ -84,5 +102,6 @@ pub(crate) fn iterate(v: Registers, m: &[u8], n: usize, t: &[u32]) -> Registers
         value = compress(value, m, 64 * i, t);
         i += 1;
     }
-    value
+    let sum = word_sum(value);
+    Summed { value, sum }
 }

@@ -1,8 +1,10 @@
 // The hash SM3 (GB/T 32905-2016).
 mod block;
 mod compress;
+mod four;
 mod padding;
 mod round;
+pub mod sums;
 mod table;
 
 use compress::iterate;
@@ -77,8 +79,8 @@ pub fn sm3(message: &[u8]) -> Hash
     let blocks = padding::last_blocks(len);
     let mut end = [0u8; 128];
     padding::put_end(message, blocks, &mut end);
-    let value = iterate(start(), message, len / 64, &t);
-    let last = iterate(value, &end, blocks, &t);
+    let value = iterate(start(), message, len / 64, &t).value;
+    let last = iterate(value, &end, blocks, &t).value;
     Hash {
         code: DONE,
         digest: digest(last),

@@ -3,8 +3,8 @@ use bytes::copy;
 use words::bytes::put_be;
 ghost use mathlib.Core.Path.{_≡_};
 ghost use mathlib.Core.List.{_++_};
-ghost use Prim.Native.Nat.{_*_, _-_, _/_, _<_, _^_};
-ghost use lib.ListN.{length, drop, replicate};
+ghost use Prim.Native.Nat.{_+_, _*_, _-_, _/_, _<_, _^_};
+ghost use lib.ListN.{length, take, drop, replicate};
 ghost use Rattle.sm3.specs.Sm3.{padded};
 ghost use Rattle.sm3.specs.Sm3Laws.{lastBlocks};
 
@@ -28,4 +28,19 @@ pub(crate) fn put_end(message: &[u8], blocks: usize, out: &mut [u8])
     copy(&message[whole..], out);
     out[rest] = 0x80;
     put_be(out, 64 * blocks - 8, 8, 8 * len as u64);
+}
+
+// Pads the message in the first len bytes of m, where it lies, and answers how many blocks it has then. Behind it m has zeros, and
+// the length has two bytes.
+pub(crate) fn pad(m: &mut [u8], len: usize) -> usize
+    requires { ⌜ length (now m) ≡ 128 ⌝ }
+    requires { ⌜ len < 120 ⌝ }
+    requires { ⌜ drop len (now m) ≡ replicate (128 - len) 0 ⌝ }
+    ensures { λ r. ⌜ r ≡ len / 64 + lastBlocks len ⌝ }
+    ensures { λ r. ⌜ now (m .exit) ≡ padded (take len (now (m .entry))) ++ replicate (128 - 64 * r) 0 ⌝ }
+{
+    let blocks = len / 64 + last_blocks(len);
+    m[len] = 0x80;
+    put_be(m, 64 * blocks - 2, 2, 8 * len as u64);
+    blocks
 }

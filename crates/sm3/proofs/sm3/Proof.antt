@@ -38,17 +38,17 @@ slice-aggregate-iterate-3 : tie.Need-slice-aggregate-iterate-3
 slice-aggregate-iterate-3 c = search needs
 
 iterate-requires-2 : tie.Need-iterate-requires-2
-iterate-requires-2 c κs = let room = rw (← c .before .before .before .before .before .before .before .before .last-blocks .ensures) at (last-blocks-fit (length (c .before .before .before .before .before .before .before .before .before .before .before .before .args .message .now))) in (omega (arith, c .before .before .before .before .before .before .put-end .kept .1 .1 .0), c .before .before .before .before .before .before .before .before .before .constants .ensures)
+iterate-requires-2 c κs = let room = rw (← c .before .before .before .before .before .before .before .before .before .last-blocks .ensures) at (last-blocks-fit (length (c .before .before .before .before .before .before .before .before .before .before .before .before .before .args .message .now))) in (omega (arith, c .before .before .before .before .before .before .before .put-end .kept .1 .1 .0), c .before .before .before .before .before .before .before .before .before .before .constants .ensures)
 
 digest-requires : tie.Need-digest-requires
 digest-requires c κs = search needs
 
 returns-2 : tie.Need-returns-2
-returns-2 c = answer-hashed (c .before .before .before .before .before .before .before .before .before .before .before .before .before .before .args .message .now) (omega arith)
+returns-2 c = answer-hashed (c .before .before .before .before .before .before .before .before .before .before .before .before .before .before .before .before .args .message .now) (omega (arith, c .before .before .before .before .before .before .before .before .before .before .before .before .before .before .if1 .left))
     (c .digest .ensures
-    ∙ sm3-of (c .before .before .before .before .before .before .before .before .before .before .before .before .before .before .args .message .now) (replicate (128 - 64 * c .before .before .before .before .before .before .before .before .before .before .last-blocks .result) 0) (c .before .before .before .before .before .before .before .before .before .before .last-blocks .result) (c .before .before .before .before .before .before .before .before .before .before .last-blocks .ensures) (c .before .before .before .before .before .before .before .before .put-end .ensures)
-    (c .before .before .before .before .iterate .ensures ∙ rw (c .before .before .before .before .before .before .start .ensures))
-    (c .before .iterate2 .ensures))
+    ∙ sm3-of (c .before .before .before .before .before .before .before .before .before .before .before .before .before .before .before .before .args .message .now) (replicate (128 - 64 * c .before .before .before .before .before .before .before .before .before .before .before .before .last-blocks .result) 0) (c .before .before .before .before .before .before .before .before .before .before .before .before .last-blocks .result) (c .before .before .before .before .before .before .before .before .before .before .before .before .last-blocks .ensures) (c .before .before .before .before .before .before .before .before .before .before .put-end .ensures)
+    (c .before .before .before .before .before .before .iterate .ensures .0 ∙ rw (c .before .before .before .before .before .before .before .before .start .ensures))
+    (c .before .before .iterate2 .ensures .0))
 
 pub sm3-spec : {M : Type 1} → statement M
 sm3-spec =

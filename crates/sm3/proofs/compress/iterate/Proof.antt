@@ -33,8 +33,11 @@ loop-again : tie.Need-loop-again Inv-loop μ-loop
 unfolding iterated
 loop-again c = (search needs, c .compress .ensures ∙ rw (add-one, c .before .before .loop .inv .1))
 
+word-sum-requires : tie.Need-word-sum-requires Inv-loop μ-loop
+word-sum-requires c κs = search needs
+
 returns : tie.Need-returns Inv-loop μ-loop
-returns c = let e : c .before .loop .i ≡ c .before .before .before .before .args .n = omega arith in rw e at (c .before .loop .inv .1)
+returns c = let e : c .before .before .loop .i ≡ c .before .before .before .before .before .args .n = omega arith in (rw e at (c .before .before .loop .inv .1), c .word-sum .ensures)
 
 pub iterate-spec : {M : Type 1} → statement M
 iterate-spec =
@@ -48,4 +51,5 @@ iterate-spec =
     add-i
     loop-less
     loop-again
+    word-sum-requires
     returns)

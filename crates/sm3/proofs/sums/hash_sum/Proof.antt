@@ -1,0 +1,39 @@
+use borrow.Author.Needs.{needs}
+use mathlib.Core.Path.{ap, _∙_}
+use native.Mathlib.Omega.{arith}
+use Rattle.sm3.specs.Sm3Laws.{padded-fits, wordTotal, hash-sum-of}
+use Rattle.sm3.proofs.sums.hash_sum.Statement.{statement}
+use Rattle.sm3.proofs.sums.hash_sum.Tie as tie
+
+constants-requires : tie.Need-constants-requires
+constants-requires c κs = search needs
+
+pad-requires : tie.Need-pad-requires
+pad-requires c κs = search needs
+
+start-requires : tie.Need-start-requires
+start-requires c κs = search needs
+
+slice-aggregate-iterate : tie.Need-slice-aggregate-iterate
+slice-aggregate-iterate c = search needs
+
+iterate-requires : tie.Need-iterate-requires
+iterate-requires c κs = let fits = padded-fits (c .before .before .before .before .before .before .before .before .before .args .len) (c .before .before .before .before .before .before .before .before .before .pre .1 .0) in (omega (arith, c .before .before .before .before .before .pad .ensures .0, c .before .before .before .before .before .pad .kept .0), c .before .before .before .before .before .before .before .constants .ensures)
+
+same-length : tie.Need-same-length
+same-length c = search needs
+
+returns : tie.Need-returns
+returns c = c .iterate .ensures .1 ∙ ap wordTotal (hash-sum-of (c .before .before .before .before .before .before .before .before .before .before .args .m .now) (c .before .before .before .before .before .before .before .before .before .before .args .len) (c .before .before .before .before .before .before .before .before .before .before .pre .0) (c .before .before .before .before .before .before .before .before .before .before .pre .1 .0) (c .before .before .before .before .before .before .pad .ensures .0) (c .before .before .before .before .before .before .pad .ensures .1) (c .before .before .before .start .ensures) (c .iterate .ensures .0))
+
+pub hash-sum-spec : {M : Type 1} → statement M
+hash-sum-spec =
+    tie.close
+    (tie.spec
+    constants-requires
+    pad-requires
+    start-requires
+    slice-aggregate-iterate
+    iterate-requires
+    same-length
+    returns)
