@@ -14,8 +14,10 @@ use Rattle.words.specs.Lists.{allZero}
 use Rattle.words.specs.ListsLaws.{and-true, and-assoc}
 use Rattle.words.specs.SwapLaws.{swapped-same, zero-number}
 use Rattle.row.specs.declared.Row.{Row}
+use Rattle.row.specs.declared.reading.RowRead.the-variants.{Good, Damaged}
 use Rattle.row.specs.Row.{rowAt, keyAt, allOf, numbersOk, zerosOk, wellFormed}
 use Rattle.row.specs.RowLaws.{length-in-range}
+use Rattle.row.specs.Table.{readRow}
 
 -- the tests as they are made, one after the other
 abbrev inOrder : Bool → List Bool → Bool
@@ -49,6 +51,19 @@ module _ (s : List ℕ) (at : ℕ) {r : Row} {b : Bool} (row : r ≡ rowAt s at)
   pub zeros-decide : {z : Bool} → not b ≡ false → z ≡ zerosOk s at → z ≡ wellFormed s at
   unfolding wellFormed
   zeros-decide t e = rw (in-range t) e
+
+-- ---- what is read
+
+module _ (s : List ℕ) (at : ℕ) {b : Bool} (test : b ≡ wellFormed s at) where
+  pub read-damaged : not b ≡ true → Damaged ≡ readRow s at
+  unfolding readRow
+  read-damaged t = let e : wellFormed s at ≡ false = sym test ∙ not-true b t in rw e
+
+  pub read-good : {r : Row} → not b ≡ false → r ≡ rowAt s at → Good at r ≡ readRow s at
+  unfolding readRow
+  read-good t row = let e : wellFormed s at ≡ true = sym test ∙ not-false b t in rw (e, row)
+
+-- ---- zeros
 
 -- the bytes behind the key
 behind-key : (s : List ℕ) (at n : ℕ) → n ≤ 32 → at + 48 ≤ length s → take (at + 48 - (at + 16 + n)) (drop (at + 16 + n) s) ≡ drop n (keyAt s at)

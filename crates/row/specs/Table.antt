@@ -1,4 +1,4 @@
--- The table of rows (document 01, Part 4): which row has a serial, and what is stored.
+-- The table of rows (document 01, Part 4): which row has a serial, what is read of it, and what is stored.
 use Prim.Native.Nat.{ℕ, zero, suc, _+_, _-_, _/_}
 use mathlib.Core.Bool.{Bool, _&&_, cond, not}
 use mathlib.Core.List.{List, _++_}
@@ -8,7 +8,9 @@ use Rattle.words.specs.Bytes.{beAt, putBe}
 use Rattle.row.specs.declared.Row.{Row}
 use Rattle.row.specs.declared.reading.Place.{Place}
 use Rattle.row.specs.declared.reading.Place.the-variants.{At, Nowhere}
-use Rattle.row.specs.Row.{rowBytes, keyBytes, render}
+use Rattle.row.specs.declared.reading.RowRead.{RowRead}
+use Rattle.row.specs.declared.reading.RowRead.the-variants.{Good, Damaged}
+use Rattle.row.specs.Row.{rowBytes, keyBytes, rowAt, render, wellFormed}
 
 abbrev pub isEmpty : List ℕ → ℕ → Bool
 isEmpty s at = eqb (getD s (at + 0) 0) 0
@@ -29,6 +31,10 @@ findRow s serial = firstRow (hasSerial s serial) (length s / rowBytes) 0
 -- load takes the first empty row (document 01, Part 5)
 unfoldable pub findEmpty : List ℕ → Place
 findEmpty s = firstRow (isEmpty s) (length s / rowBytes) 0
+
+-- a call goes on only with a well-formed row: with its place and its numbers
+unfoldable pub readRow : List ℕ → ℕ → RowRead
+readRow s at = cond (wellFormed s at) (Good at (rowAt s at)) Damaged
 
 -- the table with next and d stored at a place
 abbrev pub stepsStored : List ℕ → ℕ → Row → List ℕ

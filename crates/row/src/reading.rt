@@ -1,4 +1,4 @@
-// What is read of a row: its numbers, and whether it is well formed (document 01, Part 4).
+// What is read of a row: its place, its numbers, and whether it is well formed (document 01, Part 4).
 use crate::Row;
 use crate::layout::ALGORITHM;
 use crate::layout::DIGITS;
@@ -32,6 +32,7 @@ ghost use mathlib.Core.Path.{_≡_};
 ghost use Prim.Native.Nat.{_+_, _≤_};
 ghost use lib.ListN.{length, getD};
 ghost use Rattle.row.specs.Row.{rowAt, zerosOk, wellFormed};
+ghost use Rattle.row.specs.Table.{readRow};
 
 // The place of a row in the table.
 pub enum Place {
@@ -39,8 +40,14 @@ pub enum Place {
     Nowhere,
 }
 
+// A well-formed row's place and numbers, or that the row is not well formed.
+pub enum RowRead {
+    Good(usize, Row),
+    Damaged,
+}
+
 // The numbers of the row at a place.
-pub fn row_at(table: &[u8], at: usize) -> Row
+fn row_at(table: &[u8], at: usize) -> Row
     requires { ⌜ at + 96 ≤ length (now table) ⌝ }
     ensures { λ r. ⌜ r ≡ rowAt (now (table .entry)) at ⌝ }
 {
@@ -80,8 +87,8 @@ fn zeros_ok(table: &[u8], at: usize) -> bool
     zeros(&table[key..next]) & (be_at(table, at + GAP, 2) == 0) & (le_eight(table, at + SPARE) == 0)
 }
 
-// A call goes on only with a well-formed row.
-pub fn well_formed(table: &[u8], at: usize) -> bool
+// The test is apart from the reading, so that a caller reads the few numbers that it uses.
+fn well_formed(table: &[u8], at: usize) -> bool
     requires { ⌜ at + 96 ≤ length (now table) ⌝ }
     ensures { λ r. ⌜ r ≡ wellFormed (now (table .entry)) at ⌝ }
 {
@@ -89,4 +96,15 @@ pub fn well_formed(table: &[u8], at: usize) -> bool
         return false;
     }
     zeros_ok(table, at)
+}
+
+// A call goes on only with a well-formed row.
+pub fn read_row(table: &[u8], at: usize) -> RowRead
+    requires { ⌜ at + 96 ≤ length (now table) ⌝ }
+    ensures { λ r. ⌜ r ≡ readRow (now (table .entry)) at ⌝ }
+{
+    if !well_formed(table, at) {
+        return RowRead::Damaged;
+    }
+    RowRead::Good(at, row_at(table, at))
 }

@@ -2,21 +2,24 @@
 use Prim.Native.Nat.{ℕ, _+_, _-_, _^_, _≤_, _<_}
 use mathlib.Core.Path.{_≡_, refl, sym, ap, _∙_}
 use mathlib.Core.Logic.{⊎-elim}
-use mathlib.Core.Bool.{Bool, true, false, not, _||_}
+use mathlib.Core.Bool.{Bool, true, false, _||_}
 use mathlib.Core.List.{List}
 use native.Mathlib.Omega.{arith}
-use borrow.Author.Tests.{eq-eqb, le-leb, not-true, not-false}
+use borrow.Author.Tests.{eq-eqb, le-leb}
 use lib.Dec.{eqb}
 use lib.ListN.{length, take, drop, length-drop}
 use lib.Seq.{length-take-le}
+use Rattle.words.specs.ListsLaws.{by-test}
 use Rattle.words.specs.Tables.{and-left}
 use Rattle.otp.specs.Password.{challengeOk, argumentsOk}
 use Rattle.window.specs.Window.{Sound}
 use Rattle.window.specs.PasswordAtLaws.{inRange}
 use Rattle.window.specs.PasswordAt.{passwordAt}
 use Rattle.row.specs.declared.Row.{Row}
+use Rattle.row.specs.declared.reading.RowRead.{RowRead}
+use Rattle.row.specs.declared.reading.RowRead.the-variants.{Good, Damaged}
 use Rattle.row.specs.Row.{rowAt, numbersOk, zerosOk, wellFormed}
-use Rattle.row.specs.Table.{storeRow, wipeKey}
+use Rattle.row.specs.Table.{readRow, storeRow, wipeKey}
 use Rattle.row.specs.RowLaws.{known-algorithm, digits-in-range, length-in-range, row-sound}
 use Rattle.token.specs.declared.calls.Call.{Call}
 use Rattle.token.specs.declared.answers.Refusal.{Refusal}
@@ -44,14 +47,27 @@ pub numbers-of : (s : List ℕ) (at : ℕ) → wellFormed s at ≡ true → numb
 unfolding wellFormed
 numbers-of s at t = and-left (numbersOk (rowAt s at)) (zerosOk s at) t
 
--- ---- the test of the row
+-- ---- what was read
 
-module _ (s : List ℕ) (at : ℕ) {b : Bool} (test : b ≡ wellFormed s at) where
-  pub damaged-row : not b ≡ true → wellFormed s at ≡ false
-  damaged-row t = sym test ∙ not-true b t
+-- the numbers that were read, or others
+abbrev numbersOr : Row → RowRead → Row
+numbersOr other (Good at r) = r
+numbersOr other Damaged = other
 
-  pub good-row : not b ≡ false → wellFormed s at ≡ true
-  good-row t = sym test ∙ not-false b t
+module _ (s : List ℕ) (at : ℕ) {x : RowRead} (read : x ≡ readRow s at) where
+  pub damaged-read : x ≡ Damaged → wellFormed s at ≡ false
+  unfolding readRow
+  damaged-read e =
+      by-test (wellFormed s at)
+      (λ t. let y : Good at (rowAt s at) ≡ Damaged = sym (read ∙ rw t) ∙ e in let z : _≡_ {A = ℕ} 0 1 = cc in absurd (omega arith))
+      (λ t. t)
+
+  pub good-read : {p : ℕ} {r : Row} → x ≡ Good p r → (wellFormed s at ≡ true) × (r ≡ rowAt s at)
+  unfolding readRow
+  good-read {p} {r} e =
+      by-test (wellFormed s at)
+      (λ t. let y : Good p r ≡ Good at (rowAt s at) = sym e ∙ read ∙ rw t in (t, ap (numbersOr r) y))
+      (λ t. let y : Good p r ≡ Damaged = sym e ∙ read ∙ rw t in let z : _≡_ {A = ℕ} 0 1 = cc in absurd (omega arith))
 
 -- ---- what is answered and stored
 

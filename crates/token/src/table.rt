@@ -5,9 +5,9 @@ use crate::calls::Call;
 use crate::calls::is_void;
 use crate::serving::query;
 use crate::serving::serve;
-use row::row_at;
+use row::RowRead;
+use row::read_row;
 use row::store_row;
-use row::well_formed;
 use row::wipe_key;
 use window::Seconds;
 ghost use mathlib.Core.Path.{_≡_};
@@ -49,10 +49,9 @@ pub fn serve_at(
     ensures { λ r. ⌜ r ≡ servedAt passwordAt (now (table .entry)) at call (clock .0) (now (challenge .entry)) (now (presented .entry)) (now (following .entry)) .answer ⌝ }
     ensures { λ _. ⌜ now (table .exit) ≡ servedAt passwordAt (now (table .entry)) at call (clock .0) (now (challenge .entry)) (now (presented .entry)) (now (following .entry)) .table ⌝ }
 {
-    if !well_formed(table, at) {
+    let RowRead::Good(_, row) = read_row(table, at) else {
         return Answer::Refused(Refusal::Damaged);
-    }
-    let row = row_at(table, at);
+    };
     let start = at + KEY;
     let end = start + row.length as usize;
     let served = serve(
@@ -78,8 +77,8 @@ pub fn query_at(table: &[u8], at: usize, clock: Seconds) -> Answer
     requires { ⌜ at + 96 ≤ length (now table) ⌝ }
     ensures { λ r. ⌜ r ≡ queriedAt (now (table .entry)) at (clock .0) ⌝ }
 {
-    if !well_formed(table, at) {
+    let RowRead::Good(_, row) = read_row(table, at) else {
         return Answer::Refused(Refusal::Damaged);
-    }
-    query(row_at(table, at), clock)
+    };
+    query(row, clock)
 }
