@@ -1,6 +1,6 @@
--- A step's cut under a key's round keys is the password's.
-use Prim.Native.Nat.{ℕ, zero, suc, _+_, _-_, _*_, _/_, _%_, _^_, _<_}
-use mathlib.Core.Bool.{Bool, true, false, cond}
+-- Lists of cuts, and SM4's: a step's cut under a key's round keys is the password's.
+use Prim.Native.Nat.{ℕ, zero, suc, _+_, _-_, _*_, _/_, _%_, _^_, _≤_, _<_}
+use mathlib.Core.Bool.{Bool, true, false}
 use mathlib.Core.Path.{_≡_, refl, sym, ap, ap₂, _∙_}
 use mathlib.Core.List.{List, [], _∷_, _++_, append-assoc, append-nil}
 use native.Mathlib.Nat.{add-zero, not-suc-le-zero, le-of-suc-le-suc}
@@ -16,32 +16,44 @@ use Rattle.sm4.specs.declared.round.Quad.{Quad}
 use Rattle.otp.specs.declared.Factor.the-variants.{Absent, Present}
 use Rattle.otp.specs.Password.{factorBytes, idOf, filled, toBlocks, blockAt, outputOf, chained, wordSum, cut}
 use Rattle.otp.specs.ChainLaws.{prepared, bytes-words}
-use Rattle.otp.specs.StepCuts.{stepBlock, wordsCut, cutBy, cutsBy}
+use Rattle.otp.specs.StepCuts.{stepId, stepBlock, wordsCut, cutBy, cutsFrom}
 
 -- ---- the list
 
-pub length-cutsBy : (keys : List ℕ) (timed : Bool) (n s : ℕ) → length (cutsBy keys timed n s) ≡ n
-unfolding cutsBy
-length-cutsBy keys timed zero s = refl
-length-cutsBy keys timed (suc n) s = ap suc (length-cutsBy keys timed n (s + 1))
+pub length-cutsFrom : (cutAt : ℕ → ℕ) (n s : ℕ) → length (cutsFrom cutAt n s) ≡ n
+unfolding cutsFrom
+length-cutsFrom cutAt zero s = refl
+length-cutsFrom cutAt (suc n) s = ap suc (length-cutsFrom cutAt n (s + 1))
 
-pub cutsBy-at : (keys : List ℕ) (timed : Bool) (n s i : ℕ) → i < n → getD (cutsBy keys timed n s) i 0 ≡ cutBy keys timed (s + i)
-unfolding cutsBy
-cutsBy-at keys timed zero s i h = absurd (not-suc-le-zero h)
-cutsBy-at keys timed (suc n) s zero h = rw add-zero
-cutsBy-at keys timed (suc n) s (suc i) h =
-    cutsBy-at keys timed n (s + 1) i (le-of-suc-le-suc h) ∙ ap (cutBy keys timed) (let e : s + 1 + i ≡ s + suc i = omega arith in e)
+pub cutsFrom-at : (cutAt : ℕ → ℕ) (n s i : ℕ) → i < n → getD (cutsFrom cutAt n s) i 0 ≡ cutAt (s + i)
+unfolding cutsFrom
+cutsFrom-at cutAt zero s i h = absurd (not-suc-le-zero h)
+cutsFrom-at cutAt (suc n) s zero h = rw add-zero
+cutsFrom-at cutAt (suc n) s (suc i) h =
+    cutsFrom-at cutAt n (s + 1) i (le-of-suc-le-suc h) ∙ ap cutAt (let e : s + 1 + i ≡ s + suc i = omega arith in e)
 
-pub three-cuts : (keys : List ℕ) (timed : Bool) (s : ℕ) {a b c : ℕ} → a ≡ cutBy keys timed s → b ≡ cutBy keys timed (s + 1) → c ≡ cutBy keys timed (s + 2)
-    → a ∷ b ∷ c ∷ [] ≡ cutsBy keys timed 3 s
-unfolding cutsBy
-three-cuts keys timed s ea eb ec = rw (ea, eb, ec) (let e : s + 2 ≡ s + 1 + 1 = omega arith in rw e)
+-- a cut that is another at every step below a bound makes the same list there
+pub same-cuts : (cutAt other : ℕ → ℕ) (n s bound : ℕ) → s + n ≤ bound → ((r : ℕ) → r < bound → cutAt r ≡ other r) → cutsFrom cutAt n s ≡ cutsFrom other n s
+unfolding cutsFrom
+same-cuts cutAt other zero s bound l h = refl
+same-cuts cutAt other (suc n) s bound l h = ap₂ (λ (x : ℕ) (xs : List ℕ). x ∷ xs) (h s (omega arith)) (same-cuts cutAt other n (s + 1) bound (omega arith) h)
 
-pub five-cuts : (keys : List ℕ) (timed : Bool) (s : ℕ) {a b c d e : ℕ}
-    → a ≡ cutBy keys timed s → b ≡ cutBy keys timed (s + 1) → c ≡ cutBy keys timed (s + 2) → d ≡ cutBy keys timed (s + 3) → e ≡ cutBy keys timed (s + 4)
-    → a ∷ b ∷ c ∷ d ∷ e ∷ [] ≡ cutsBy keys timed 5 s
-unfolding cutsBy
-five-cuts keys timed s ea eb ec ed ee =
+pub three-cuts : (cutAt : ℕ → ℕ) (s : ℕ) {a b c : ℕ} → a ≡ cutAt s → b ≡ cutAt (s + 1) → c ≡ cutAt (s + 2) → a ∷ b ∷ c ∷ [] ≡ cutsFrom cutAt 3 s
+unfolding cutsFrom
+three-cuts cutAt s ea eb ec = rw (ea, eb, ec) (let e : s + 2 ≡ s + 1 + 1 = omega arith in rw e)
+
+pub four-cuts : (cutAt : ℕ → ℕ) (s : ℕ) {a b c d : ℕ} → a ≡ cutAt s → b ≡ cutAt (s + 1) → c ≡ cutAt (s + 2) → d ≡ cutAt (s + 3)
+    → a ∷ b ∷ c ∷ d ∷ [] ≡ cutsFrom cutAt 4 s
+unfolding cutsFrom
+four-cuts cutAt s ea eb ec ed =
+    let f : s + 2 ≡ s + 1 + 1 = omega arith in
+    let g : s + 3 ≡ s + 1 + 1 + 1 = omega arith in
+    rw (ea, eb, ec, ed, f, g)
+
+pub five-cuts : (cutAt : ℕ → ℕ) (s : ℕ) {a b c d e : ℕ}
+    → a ≡ cutAt s → b ≡ cutAt (s + 1) → c ≡ cutAt (s + 2) → d ≡ cutAt (s + 3) → e ≡ cutAt (s + 4) → a ∷ b ∷ c ∷ d ∷ e ∷ [] ≡ cutsFrom cutAt 5 s
+unfolding cutsFrom
+five-cuts cutAt s ea eb ec ed ee =
     let f : s + 2 ≡ s + 1 + 1 = omega arith in
     let g : s + 3 ≡ s + 1 + 1 + 1 = omega arith in
     let h : s + 4 ≡ s + 1 + 1 + 1 + 1 = omega arith in
@@ -64,13 +76,9 @@ counted-bytes : (s : ℕ) → filled (idOf Absent (Present s) []) ≡ beBytes 4 
 unfolding filled idOf factorBytes beBytes
 counted-bytes s = refl
 
--- the ID of a step
-abbrev pub stepId : Bool → ℕ → List ℕ
-stepId timed s = filled (idOf (cond timed (Present s) Absent) (cond timed Absent (Present s)) [])
-
--- its words are the block
-block-words : (timed : Bool) (s : ℕ) → s < 2 ^ 64 → wordsOf (stepId timed s) ≡ stepBlock timed s
-unfolding stepBlock
+-- the words of a step's ID are the block
+block-words : (timed : Bool) (s : ℕ) → s < 2 ^ 64 → wordsOf (filled (stepId timed s)) ≡ stepBlock timed s
+unfolding stepBlock stepId
 block-words true s h = rw (timed-bytes s) (bytes-words s 0 h (omega arith))
 block-words false s h =
     let x = s % 2 ^ 32 * 2 ^ 32 in
@@ -84,8 +92,8 @@ unfolding stepBlock
 block-below true s h = record { a-lt = omega arith; b-lt = omega arith; c-lt = omega arith; d-lt = omega arith }
 block-below false s h = record { a-lt = omega arith; b-lt = omega arith; c-lt = omega arith; d-lt = omega arith }
 
-id-length : (timed : Bool) (s : ℕ) → length (stepId timed s) ≡ 16
-unfolding filled idOf factorBytes beBytes
+id-length : (timed : Bool) (s : ℕ) → length (filled (stepId timed s)) ≡ 16
+unfolding stepId filled idOf factorBytes beBytes
 id-length true s = refl
 id-length false s = refl
 
@@ -114,12 +122,12 @@ reversed-cut q h =
     rw (l, a, b, c, d) (ap (λ (n : ℕ). n % 2 ^ 32) (let e : 0 + q .d + q .c + q .b + q .a ≡ q .a + q .b + q .c + q .d = omega arith in e))
 
 -- the law: a step's cut is that of the definition
-pub step-cut : (key : List ℕ) (timed : Bool) (s : ℕ) → s < 2 ^ 64 → cut (chained key (stepId timed s)) ≡ cutBy (prepared 4 key) timed s
+pub step-cut : (key : List ℕ) (timed : Bool) (s : ℕ) → s < 2 ^ 64 → cut (chained key (filled (stepId timed s))) ≡ cutBy (prepared 4 key) timed s
 unfolding cutBy sm4Of encryptWith
 step-cut key timed s h =
     let keys = roundKeys (take 16 key) in
     let below = steps-below linear linear-lt keys 32 (stepBlock timed s) (block-below timed s h) in
-    rw (one-block key (stepId timed s) (id-length timed s), block-words timed s h) (reversed-cut (steps linear keys 32 (stepBlock timed s)) below)
+    rw (one-block key (filled (stepId timed s)) (id-length timed s), block-words timed s h) (reversed-cut (steps linear keys 32 (stepBlock timed s)) below)
 
 -- ---- the two kinds of blocks
 

@@ -1,8 +1,8 @@
--- The cut of a step's password by SM3 without a challenge, and those of four steps whose hashes are made side by side.
+-- The cuts of four steps by SM3 without a challenge, whose hashes are made side by side.
 use Prim.Native.Nat.{ℕ, _+_, _-_, _≤_, _<_, max}
 use mathlib.Core.Path.{_≡_, refl, sym, ap, _∙_}
-use mathlib.Core.Bool.{Bool, cond}
-use mathlib.Core.List.{List, [], _∷_, _++_}
+use mathlib.Core.Bool.{Bool}
+use mathlib.Core.List.{List, [], _++_}
 use native.Mathlib.Omega.{arith}
 use lib.ListN.{length, take, drop, replicate, length-append, length-replicate}
 use Rattle.words.specs.Bytes.{put}
@@ -10,26 +10,11 @@ use Rattle.sm3.specs.Sm3.{sm3Of, padded, wordsAt}
 use Rattle.sm3.specs.Sm3Laws.{wordTotal}
 use Rattle.sm3.specs.FourLaws.{laneOf, laneSum, laneSums, Message, one-block}
 use Rattle.otp.specs.declared.Factor.{Factor}
-use Rattle.otp.specs.declared.Factor.the-variants.{Absent, Present}
 use Rattle.otp.specs.Password.{idOf, filled, cut}
 use Rattle.otp.specs.IdLaws.{id-length}
+use Rattle.otp.specs.StepCuts.{timeAt, countAt, stepId, hashedCut, cutsFrom}
+use Rattle.otp.specs.StepCutsLaws.{four-cuts}
 use Rattle.otp.specs.HashedLaws.{cut-hash, laid-behind, laid-message}
-
--- a time token's step is its time factor T, an event token's its count C
-abbrev pub timeAt : Bool → ℕ → Factor
-timeAt timed s = cond timed (Present s) Absent
-
-abbrev pub countAt : Bool → ℕ → Factor
-countAt timed s = cond timed Absent (Present s)
-
-unfoldable pub stepId : Bool → ℕ → List ℕ
-stepId timed s = idOf (timeAt timed s) (countAt timed s) []
-
-abbrev pub hashedCut : List ℕ → Bool → ℕ → ℕ
-hashedCut key timed s = cut (sm3Of (key ++ filled (stepId timed s)))
-
-abbrev pub hashedCuts : List ℕ → Bool → ℕ → List ℕ
-hashedCuts key timed s = hashedCut key timed s ∷ hashedCut key timed (s + 1) ∷ hashedCut key timed (s + 2) ∷ hashedCut key timed (s + 3) ∷ []
 
 step-length : (timed : Bool) (s : ℕ) → length (stepId timed s) ≤ 12
 unfolding stepId
@@ -64,7 +49,7 @@ message-cut m l w h e = rw e (ap wordTotal (one-block m h) ∙ sym (cut-hash m))
 pub cuts-of : (key : List ℕ) (timed : Bool) (s : ℕ) (w w₁ w₂ w₃ w₄ : List ℕ) {r : List ℕ} → length key ≤ 32
     → Message 0 (key ++ filled (stepId timed s)) w w₁ → Message 1 (key ++ filled (stepId timed (s + 1))) w₁ w₂
     → Message 2 (key ++ filled (stepId timed (s + 2))) w₂ w₃ → Message 3 (key ++ filled (stepId timed (s + 3))) w₃ w₄
-    → r ≡ laneSums w₄ → r ≡ hashedCuts key timed s
+    → r ≡ laneSums w₄ → r ≡ cutsFrom (hashedCut key timed) 4 s
 cuts-of key timed s w w₁ w₂ w₃ w₄ k m₀ m₁ m₂ m₃ e =
     let lane : (l : ℕ) (v : List ℕ) (n : ℕ) → laneOf 80 l w₄ ≡ laneOf 80 l v → take 16 (laneOf 80 l v) ≡ wordsAt 16 (padded (key ++ filled (stepId timed n))) 0
     → laneSum l w₄ ≡ hashedCut key timed n =
@@ -77,4 +62,4 @@ cuts-of key timed s w w₁ w₂ w₃ w₄ k m₀ m₁ m₂ m₃ e =
     let c₁ = lane 1 w₂ (s + 1) k₁ (m₁ .block) in
     let c₂ = lane 2 w₃ (s + 2) k₂ (m₂ .block) in
     let c₃ = lane 3 w₄ (s + 3) refl (m₃ .block) in
-    e ∙ rw (c₀, c₁, c₂, c₃)
+    e ∙ four-cuts (hashedCut key timed) s c₀ c₁ c₂ c₃

@@ -9,7 +9,7 @@ ghost use mathlib.Core.Path.{_≡_};
 ghost use Prim.Native.Nat.{_^_, _≤_, _<_};
 ghost use lib.ListN.{length};
 ghost use Rattle.otp.specs.ChainLaws.{prepared};
-ghost use Rattle.otp.specs.StepCuts.{stepBlock, cutsBy};
+ghost use Rattle.otp.specs.StepCuts.{stepBlock, cutBy, cutsFrom};
 
 // The words of a step's block: a time token's T has two, an event token's C one.
 fn block_of(timed: bool, s: u64) -> Quad
@@ -38,7 +38,7 @@ pub fn first_cuts(key: &[u8], timed: bool, s: u64, keys: &mut [u32]) -> [u32; 3]
     requires { ⌜ 16 ≤ length (now key) ⌝ }
     requires { ⌜ length (now keys) ≡ 32 ⌝ }
     requires { ⌜ s < 2 ^ 63 ⌝ }
-    ensures { λ r. ⌜ r ≡ cutsBy (prepared 4 (now (key .entry))) timed 3 s ⌝ }
+    ensures { λ r. ⌜ r ≡ cutsFrom (cutBy (prepared 4 (now (key .entry))) timed) 3 s ⌝ }
     ensures { λ _. ⌜ now (keys .exit) ≡ prepared 4 (now (key .entry)) ⌝ }
 {
     let blocks = Three {
@@ -57,7 +57,7 @@ pub fn first_cuts(key: &[u8], timed: bool, s: u64, keys: &mut [u32]) -> [u32; 3]
 pub fn next_cuts(keys: &[u32], timed: bool, s: u64) -> [u32; 5]
     requires { ⌜ length (now keys) ≡ 32 ⌝ }
     requires { ⌜ s < 2 ^ 63 ⌝ }
-    ensures { λ r. ⌜ r ≡ cutsBy (now (keys .entry)) timed 5 s ⌝ }
+    ensures { λ r. ⌜ r ≡ cutsFrom (cutBy (now (keys .entry)) timed) 5 s ⌝ }
 {
     let blocks = Five {
         first: block_of(timed, s),

@@ -11,7 +11,7 @@ ghost use Prim.Native.Nat.{_^_, _≤_, _<_};
 ghost use lib.ListN.{length};
 ghost use Rattle.sm3.specs.FourLaws.{Message};
 ghost use Rattle.otp.specs.Password.{filled};
-ghost use Rattle.otp.specs.StepLaws.{timeAt, countAt, stepId, hashedCut, hashedCuts};
+ghost use Rattle.otp.specs.StepCuts.{timeAt, countAt, stepId, hashedCut, cutsFrom};
 
 // A time token's step is its time factor T, an event token's its count C.
 fn time_at(timed: bool, s: u64) -> Factor
@@ -65,7 +65,7 @@ fn put_step(w: &mut [u32], l: usize, key: &[u8], timed: bool, s: u64)
 pub fn hashed_cuts(key: &[u8], timed: bool, s: u64) -> [u32; 4]
     requires { ⌜ length (now key) ≤ 32 ⌝ }
     requires { ⌜ s < 2 ^ 63 ⌝ }
-    ensures { λ r. ⌜ r ≡ hashedCuts (now (key .entry)) timed s ⌝ }
+    ensures { λ r. ⌜ r ≡ cutsFrom (hashedCut (now (key .entry)) timed) 4 s ⌝ }
 {
     let mut w = [0u32; 320];
     put_step(&mut w, 0, key, timed, s);

@@ -1,12 +1,20 @@
 -- The search by cuts of consecutive steps: the presented passwords as numbers, and which cuts have them.
-use Prim.Native.Nat.{ℕ, _-_, _%_, _^_}
+use Prim.Native.Nat.{ℕ, _+_, _-_, _%_, _^_, min}
+use mathlib.Core.Path.{_≡_}
 use mathlib.Core.Bool.{Bool, true, false, cond, not, _&&_, _||_}
 use mathlib.Core.List.{List, [], _∷_}
 use lib.Dec.{eqb}
-use lib.ListN.{getD}
+use lib.ListN.{length, getD, drop}
 use Rattle.otp.specs.Numbers.{numberOf}
-use Rattle.otp.specs.StepCuts.{cutBy}
+use Rattle.otp.specs.Password.{algorithmSm3, keyed, filled, cut}
+use Rattle.otp.specs.ChainLaws.{prepared}
+use Rattle.otp.specs.StepCuts.{stepId}
+use Rattle.window.specs.declared.Rule.{Rule}
 use Rattle.window.specs.declared.lanes.Goal.{Goal}
+use Rattle.window.specs.declared.lanes.Part.{Part}
+use Rattle.window.specs.Window.{timeToken}
+use Rattle.window.specs.CheckLaws.{sweep}
+use Rattle.window.specs.SearchLaws.{foundOf}
 
 -- the numbers that are searched for: of a pair, that of the step before the accepted one and that of the accepted one
 unfoldable pub goalOf : ℕ → List ℕ → List ℕ → Goal
@@ -21,10 +29,41 @@ aheadBy goal = cond (goal .pair) 1 0
 unfoldable pub hits : Goal → ℕ → ℕ → Bool
 hits goal x y = eqb (y % goal .modulus) (goal .last) && (not (goal .pair) || eqb (x % goal .modulus) (goal .before))
 
--- step a is to be accepted, by the cuts under round keys
-unfoldable pub laneTest : Goal → List ℕ → Bool → ℕ → Bool
-laneTest goal keys timed a = hits goal (cutBy keys timed (a - 1)) (cutBy keys timed a)
+-- the cut of a token's step, without a challenge
+unfoldable pub cutAt : Rule → List ℕ → ℕ → ℕ
+cutAt rule key s = cut (keyed (rule .algorithm) key (filled (stepId (eqb (rule .kind) timeToken) s)))
+
+-- step a is to be accepted, by the cut of each step
+unfoldable pub laneTest : Goal → (ℕ → ℕ) → ℕ → Bool
+laneTest goal cutOf a = hits goal (cutOf (a - 1)) (cutOf a)
 
 -- the same by a list of the cuts from step s on, and the one before
 unfoldable pub listTest : Goal → ℕ → List ℕ → ℕ → ℕ → Bool
 listTest goal before cuts s a = hits goal (getD (before ∷ cuts) (a - s) 0) (getD cuts (a - s) 0)
+
+-- ---- a part of a search
+
+-- where the cuts begin one step ahead of the part, that is the step before it
+abbrev pub priorOf : ℕ → ℕ → ℕ → ℕ
+priorOf ahead before start = cond (eqb ahead 0) before start
+
+-- of a pair, before is the cut of the step before s, unless the part's own cuts begin there
+abbrev pub Prior : Goal → (ℕ → ℕ) → ℕ → ℕ → ℕ → Type 0
+Prior goal cutOf ahead before s = goal .pair ≡ true → ahead ≡ 0 → before ≡ cutOf (s - 1)
+
+-- what the steps from s on, below end, give whose cuts are made
+unfoldable pub partOf : Goal → ℕ → ℕ → List ℕ → ℕ → ℕ → Part
+partOf goal ahead before cuts s end =
+    record {
+      found = foundOf (sweep (listTest goal (priorOf ahead before (getD cuts 0 0)) (drop ahead cuts) s) s (min (s + (length cuts - ahead)) end - s));
+      last = getD cuts (length cuts - 1) 0;
+      next = s + (length cuts - ahead);
+    }
+
+-- how many cuts are made at once: five by SM4, four by SM3, and one where one step is left
+unfoldable pub width : ℕ → ℕ → ℕ
+width algorithm left = cond (eqb algorithm algorithmSm3) (cond (eqb left 1) 1 4) 5
+
+-- SM4 has its round keys
+abbrev pub Keyed : Rule → List ℕ → List ℕ → Type 0
+Keyed rule key keys = (rule .algorithm ≡ algorithmSm3 → ⊥) → keys ≡ prepared 4 key

@@ -9,16 +9,14 @@ use borrow.Author.Tests.{eqb-true, ne-eqb}
 use lib.Dec.{eqb}
 use lib.ListN.{length}
 use Rattle.words.specs.Tables.{and-left, and-right}
-use Rattle.otp.specs.ChainLaws.{prepared}
 use Rattle.window.specs.declared.Size.{Size}
 use Rattle.window.specs.declared.Step.{Step}
 use Rattle.window.specs.declared.Track.{Track}
 use Rattle.window.specs.declared.Outcome.{Outcome}
-use Rattle.window.specs.declared.Outcome.the-variants.{Wrong}
 use Rattle.window.specs.declared.search.Found.{Found}
 use Rattle.window.specs.declared.search.Found.the-variants.{At, Nowhere}
 use Rattle.window.specs.declared.lanes.Goal.{Goal}
-use Rattle.window.specs.Window.{timeToken, Sound}
+use Rattle.window.specs.Window.{Sound}
 use Rattle.window.specs.WindowLaws.{firstStep, endStep}
 use Rattle.window.specs.Check.{accepting}
 use Rattle.window.specs.CheckLaws.{sweep}
@@ -26,7 +24,7 @@ use Rattle.window.specs.PasswordAtLaws.{aheadOf, ahead-le, matchesAt, co
 use Rattle.window.specs.SearchLaws.{foundOf, usedOrWrong, sweep-end}
 use Rattle.window.specs.TokenCheck.{tooFar, checkOf}
 use Rattle.window.specs.TokenCheckLaws.{first-fits, end-small, check-accepts, check-rest}
-use Rattle.window.specs.Lanes.{goalOf, aheadBy, laneTest}
+use Rattle.window.specs.Lanes.{goalOf, aheadBy, cutAt, laneTest}
 use Rattle.window.specs.LanesLaws.{lanes-search}
 
 -- ---- what the goal gives
@@ -54,46 +52,34 @@ presented-fits digits presented (b ∷ following) h c =
 
 -- ---- the ways through the code
 
-module _ (k : Track) (clock : ℕ) (size : Size) (key challenge presented following : List ℕ) {first end fresh used ahead : ℕ} {goal : Goal} {timed : Bool}
-    (good : Sound k clock) (sm4 : k .rule .algorithm ≡ 4) (none : length challenge ≡ 0) (counts : countsRight (k .rule .digits) presented following ≡ true)
+module _ (k : Track) (clock : ℕ) (size : Size) (key challenge presented following : List ℕ) {first end fresh used ahead : ℕ} {goal : Goal}
+    (good : Sound k clock) (none : length challenge ≡ 0) (counts : countsRight (k .rule .digits) presented following ≡ true)
     (h : ahead ≡ aheadOf following) (a : first ≡ firstStep k clock size) (b : end ≡ endStep k clock size)
     (m : fresh ≡ max (first + ahead) (k .next .0 + ahead)) (n : used ≡ min end (k .next .0 + ahead))
-    (eg : goal ≡ goalOf (k .rule .digits) presented following) (et : timed ≡ eqb (k .rule .kind) timeToken) where
-  pub range-small : (first + ahead ≤ 2 ^ 62) × ((fresh ≤ 2 ^ 62) × ((end ≤ 2 ^ 62) × (used ≤ 2 ^ 62)))
+    (eg : goal ≡ goalOf (k .rule .digits) presented following) where
+  pub range-small : (first + ahead ≤ 2 ^ 62) × ((end ≤ 2 ^ 62) × (used ≤ 2 ^ 62))
   range-small =
       let p : first ≤ 2 ^ 41 = rw a (first-fits k clock size good) in
       let q : end ≤ 2 ^ 41 = rw b (end-small k clock size good) in
       let r : ahead ≤ 1 = rw h (ahead-le following) in
-      (omega (arith, p, r), (omega (arith, p, r, m, good .counted), (omega (arith, q), omega (arith, q, n))))
+      (omega (arith, p, r), (omega (arith, q), omega (arith, q, n)))
 
   -- of a pair, no range begins at step 0
   pub ranges-ahead : (aheadBy goal ≤ first + ahead) × (aheadBy goal ≤ fresh)
   ranges-ahead = let e = goal-ahead (k .rule .digits) presented following eg in (omega (arith, e, h), omega (arith, e, h, m))
 
-  by-password : (from to : ℕ) {keys : List ℕ} {f : Found} → to ≤ 2 ^ 62 → keys ≡ prepared 4 key → f ≡ foundOf (sweep (laneTest goal keys timed) from (to - from))
-      → f ≡ foundOf (sweep (matchesAt (k .rule) key challenge presented following) from (to - from))
-  by-password from to l ek e = lanes-search (k .rule) key sm4 challenge presented following from to none counts (omega (arith, l)) eg et ek e
+  by-password : (from n : ℕ) {f : Found} → f ≡ foundOf (sweep (laneTest goal (cutAt (k .rule) key)) from n) → f ≡ foundOf (sweep (matchesAt (k .rule) key challenge presented following) from n)
+  by-password from n e = lanes-search (k .rule) key challenge presented following from n none counts eg e
 
-  pub lanes-accepts : {f : Found} {s : Step} {r : Outcome} → f ≡ foundOf (sweep (laneTest goal (prepared 4 key) timed) fresh (end - fresh)) → f ≡ At s
+  pub lanes-accepts : {f : Found} {s : Step} {r : Outcome} → f ≡ foundOf (sweep (laneTest goal (cutAt (k .rule) key)) fresh (end - fresh)) → f ≡ At s
       → r ≡ accepting (tooFar k clock) (s .0) → r ≡ checkOf k clock size key challenge presented following
-  lanes-accepts e i p = check-accepts k clock size key challenge presented following h a b m (by-password fresh end (range-small .1 .1 .0) refl e) i p
+  lanes-accepts e i p = check-accepts k clock size key challenge presented following h a b m (by-password fresh (end - fresh) e) i p
 
-  pub lanes-rest : {keys : List ℕ} {f g : Found} {r : Outcome} → f ≡ foundOf (sweep (laneTest goal (prepared 4 key) timed) fresh (end - fresh)) → f ≡ Nowhere
-      → keys ≡ prepared 4 key → g ≡ foundOf (sweep (laneTest goal keys timed) (first + ahead) (used - (first + ahead))) → r ≡ usedOrWrong g
-      → r ≡ checkOf k clock size key challenge presented following
-  lanes-rest e i ek u p =
-      check-rest k clock size key challenge presented following h a b m (by-password fresh end (range-small .1 .1 .0) refl e) i n
-      (by-password (first + ahead) used (range-small .1 .1 .1) ek u) p
+  module _ {g : Found} {r : Outcome} (u : g ≡ foundOf (sweep (laneTest goal (cutAt (k .rule) key)) (first + ahead) (used - (first + ahead)))) (p : r ≡ usedOrWrong g) where
+    pub lanes-rest : {f : Found} → f ≡ foundOf (sweep (laneTest goal (cutAt (k .rule) key)) fresh (end - fresh)) → f ≡ Nowhere → r ≡ checkOf k clock size key challenge presented following
+    lanes-rest e i =
+        check-rest k clock size key challenge presented following h a b m (by-password fresh (end - fresh) e) i n (by-password (first + ahead) (used - (first + ahead)) u) p
 
-  no-fresh : end ≤ fresh → Nowhere ≡ foundOf (sweep (matchesAt (k .rule) key challenge presented following) fresh (end - fresh))
-  no-fresh l = sweep-end (matchesAt (k .rule) key challenge presented following) fresh end l
-
-  pub lanes-used : {g : Found} {r : Outcome} → end ≤ fresh → g ≡ foundOf (sweep (laneTest goal (prepared 4 key) timed) (first + ahead) (used - (first + ahead))) → r ≡ usedOrWrong g
-      → r ≡ checkOf k clock size key challenge presented following
-  lanes-used l u p =
-      check-rest k clock size key challenge presented following h a b m (no-fresh l) refl n (by-password (first + ahead) used (range-small .1 .1 .1) refl u) p
-
-  pub lanes-none : end ≤ fresh → used ≤ first + ahead → Wrong ≡ checkOf k clock size key challenge presented following
-  lanes-none l u =
-      check-rest k clock size key challenge presented following h a b m (no-fresh l) refl n
-      (sweep-end (matchesAt (k .rule) key challenge presented following) (first + ahead) used u) refl
+    -- no step is fresh
+    pub lanes-used : end ≤ fresh → r ≡ checkOf k clock size key challenge presented following
+    lanes-used l = lanes-rest (sweep-end (laneTest goal (cutAt (k .rule) key)) fresh end l) refl

@@ -8,54 +8,53 @@ use mathlib.Core.Option.{Option, none, some}
 use native.Mathlib.Nat.{add-zero, mod-lt, zero-lt-suc}
 use native.Mathlib.Numerals.{add-one}
 use native.Mathlib.Omega.{arith}
-use borrow.Author.Tests.{eq-eqb, ne-eqb, eqb-true}
+use borrow.Author.Tests.{eq-eqb, ne-eqb, eqb-true, eqb-false}
 use lib.Dec.{eqb}
-use lib.ListN.{length, getD, take, drop}
+use lib.ListN.{length, getD, take, drop, length-drop}
 use lib.Seq.{take-all}
 use Rattle.words.specs.ListsLaws.{by-test, and-true}
 use Rattle.words.specs.Tables.{and-left, and-right}
-use Rattle.otp.specs.Password.{keyed, cut, shown, passwordOf}
+use Rattle.otp.specs.Password.{algorithmSm3, filled, cut, shown, passwordOf}
+use Rattle.otp.specs.PasswordLaws.{keyed-hashed, keyed-chained}
 use Rattle.otp.specs.ChainLaws.{prepared}
 use Rattle.otp.specs.Numbers.{numberOf}
 use Rattle.otp.specs.NumbersLaws.{same-number}
-use Rattle.otp.specs.StepCuts.{cutBy, cutsBy}
-use Rattle.otp.specs.StepCutsLaws.{step-cut, length-cutsBy, cutsBy-at}
+use Rattle.otp.specs.StepCuts.{stepId, hashedCut, cutBy, cutsFrom}
+use Rattle.otp.specs.StepCutsLaws.{step-cut, length-cutsFrom, cutsFrom-at, same-cuts}
 use Rattle.window.specs.declared.Rule.{Rule}
 use Rattle.window.specs.declared.Step.{Step}
 use Rattle.window.specs.declared.search.Found.{Found}
 use Rattle.window.specs.declared.search.Found.the-variants.{At, Nowhere}
 use Rattle.window.specs.declared.lanes.Goal.{Goal}
+use Rattle.window.specs.declared.lanes.Part.{Part}
 use Rattle.window.specs.Window.{timeToken}
 use Rattle.window.specs.Check.{orElse}
 use Rattle.window.specs.CheckLaws.{sweep, order}
 use Rattle.window.specs.PasswordAt.{passwordAt, hasPassword}
 use Rattle.window.specs.PasswordAtLaws.{matchesAt, countsRight}
 use Rattle.window.specs.SearchLaws.{foundOf, sweep-same}
-use Rattle.window.specs.Lanes.{goalOf, aheadBy, hits, laneTest, listTest}
+use Rattle.window.specs.Lanes.{goalOf, aheadBy, hits, cutAt, laneTest, listTest, priorOf, Prior, partOf, width}
 
 -- ---- numbers
 
-module _ (rule : Rule) (key : List ℕ) (sm4 : rule .algorithm ≡ 4) where
+module _ (rule : Rule) (key : List ℕ) where
   -- a step has a password exactly if its cut leaves the password's number
-  has-number : (presented : List ℕ) (s : ℕ) → length presented ≡ rule .digits → s < 2 ^ 64
-      → hasPassword rule key [] presented s ≡ eqb (cutBy (prepared 4 key) (eqb (rule .kind) timeToken) s % 10 ^ rule .digits) (numberOf presented)
-  unfolding hasPassword passwordAt passwordOf shown keyed cutBy
-  has-number presented s l h =
-      let timed = eqb (rule .kind) timeToken in
-      rw (sm4, step-cut key timed s h) (same-number presented (rule .digits) (cutBy (prepared 4 key) timed s) l (mod-lt _ (zero-lt-suc 4294967295)))
+  has-number : (presented : List ℕ) (s : ℕ) → length presented ≡ rule .digits → hasPassword rule key [] presented s ≡ eqb (cutAt rule key s % 10 ^ rule .digits) (numberOf presented)
+  unfolding hasPassword passwordAt passwordOf shown cutAt stepId cut
+  has-number presented s l = same-number presented (rule .digits) (cutAt rule key s) l (mod-lt _ (zero-lt-suc 4294967295))
 
-  lane-matches : (presented following : List ℕ) (a : ℕ) → countsRight (rule .digits) presented following ≡ true → a < 2 ^ 64
-      → laneTest (goalOf (rule .digits) presented following) (prepared 4 key) (eqb (rule .kind) timeToken) a ≡ matchesAt rule key [] presented following a
+  lane-matches : (presented following : List ℕ) (a : ℕ) → countsRight (rule .digits) presented following ≡ true
+      → laneTest (goalOf (rule .digits) presented following) (cutAt rule key) a ≡ matchesAt rule key [] presented following a
   unfolding laneTest goalOf hits matchesAt
-  lane-matches presented [] a c h =
+  lane-matches presented [] a c =
       let l = eqb-true (length presented) (rule .digits) (and-left (eqb (length presented) (rule .digits)) true c) in
-      and-true _ ∙ sym (has-number presented a l h)
-  lane-matches presented (b ∷ following) a c h =
+      and-true _ ∙ sym (has-number presented a l)
+  lane-matches presented (b ∷ following) a c =
       let d : eqb (length presented) (rule .digits) && eqb (suc (length following)) (rule .digits) ≡ true = rw (ne-eqb (suc (length following)) 0 (λ z. omega arith)) at c in
       let l = eqb-true (length presented) (rule .digits) (and-left (eqb (length presented) (rule .digits)) (eqb (suc (length following)) (rule .digits)) d) in
       let m = eqb-true (suc (length following)) (rule .digits) (and-right (eqb (length presented) (rule .digits)) (eqb (suc (length following)) (rule .digits)) d) in
-      let number : ℕ → ℕ = λ s. cutBy (prepared 4 key) (eqb (rule .kind) timeToken) s % 10 ^ rule .digits in
-      and-swap (eqb (number a) (numberOf (b ∷ following))) (eqb (number (a - 1)) (numberOf presented)) ∙ sym (ap₂ _&&_ (has-number presented (a - 1) l (omega arith)) (has-number (b ∷ following) a m h))
+      let number : ℕ → ℕ = λ s. cutAt rule key s % 10 ^ rule .digits in
+      and-swap (eqb (number a) (numberOf (b ∷ following))) (eqb (number (a - 1)) (numberOf presented)) ∙ sym (ap₂ _&&_ (has-number presented (a - 1) l) (has-number (b ∷ following) a m))
     where
       and-swap : (p q : Bool) → p && q ≡ q && p
       and-swap true true = refl
@@ -64,15 +63,13 @@ module _ (rule : Rule) (key : List ℕ) (sm4 : rule .algorithm ≡ 4) where
       and-swap false false = refl
 
   -- the two searches agree
-  pub lanes-search : (challenge presented following : List ℕ) (first end : ℕ) {goal : Goal} {timed : Bool} {keys : List ℕ} {f : Found}
-      → length challenge ≡ 0 → countsRight (rule .digits) presented following ≡ true → end ≤ 2 ^ 63
-      → goal ≡ goalOf (rule .digits) presented following → timed ≡ eqb (rule .kind) timeToken → keys ≡ prepared 4 key
-      → f ≡ foundOf (sweep (laneTest goal keys timed) first (end - first))
-      → f ≡ foundOf (sweep (matchesAt rule key challenge presented following) first (end - first))
-  lanes-search [] presented following first end z c h eg et ek e =
-      e ∙ rw (eg, et, ek) (ap foundOf (sweep-same (laneTest (goalOf (rule .digits) presented following) (prepared 4 key) (eqb (rule .kind) timeToken)) (matchesAt rule key [] presented following)
-      first (end - first) (λ r l m. lane-matches presented following r c (omega arith))))
-  lanes-search (b ∷ challenge) presented following first end z c h eg et ek e = absurd (omega arith)
+  pub lanes-search : (challenge presented following : List ℕ) (first n : ℕ) {goal : Goal} {f : Found}
+      → length challenge ≡ 0 → countsRight (rule .digits) presented following ≡ true → goal ≡ goalOf (rule .digits) presented following
+      → f ≡ foundOf (sweep (laneTest goal (cutAt rule key)) first n) → f ≡ foundOf (sweep (matchesAt rule key challenge presented following) first n)
+  lanes-search [] presented following first n z c eg e =
+      e ∙ rw eg (ap foundOf (sweep-same (laneTest (goalOf (rule .digits) presented following) (cutAt rule key)) (matchesAt rule key [] presented following)
+      first n (λ r l m. lane-matches presented following r c)))
+  lanes-search (b ∷ challenge) presented following first n z c eg e = absurd (omega arith)
 
 -- ---- the goal
 
@@ -107,31 +104,26 @@ list-at goal before cuts s i {a = a} ea ex ey eb = let e : a - s ≡ i = omega a
 pub list-next : (before : ℕ) (cuts : List ℕ) (i : ℕ) → getD cuts i 0 ≡ getD (before ∷ cuts) (i + 1) 0
 list-next before cuts i = rw add-one
 
--- the last of the cuts is that of the step before the next
-pub cut-before : (keys : List ℕ) (timed : Bool) (n s j next : ℕ) {cuts : List ℕ} → cuts ≡ cutsBy keys timed n s → j < n → s + j + 1 ≡ next → getD cuts j 0 ≡ cutBy keys timed (next - 1)
-cut-before keys timed n s j next ec h e = rw ec (cutsBy-at keys timed n s j h) ∙ ap (cutBy keys timed) (let f : s + j ≡ next - 1 = omega arith in f)
-
 prior-hits : (goal : Goal) {x x′ : ℕ} (y : ℕ) → (goal .pair ≡ true → x ≡ x′) → hits goal x y ≡ hits goal x′ y
 unfolding hits
 prior-hits goal y h = by-test (goal .pair) (λ t. rw (h t)) (λ t. rw t)
 
-module _ (goal : Goal) (keys : List ℕ) (timed : Bool) (n s : ℕ) {before : ℕ} {cuts : List ℕ} (ec : cuts ≡ cutsBy keys timed n s)
-    (eb : goal .pair ≡ true → before ≡ cutBy keys timed (s - 1)) where
-  list-lane : (r : ℕ) → s ≤ r → r < s + n → listTest goal before cuts s r ≡ laneTest goal keys timed r
+module _ (goal : Goal) (cutOf : ℕ → ℕ) (n s : ℕ) {before : ℕ} {cuts : List ℕ} (ec : cuts ≡ cutsFrom cutOf n s) (eb : goal .pair ≡ true → before ≡ cutOf (s - 1)) where
+  list-lane : (r : ℕ) → s ≤ r → r < s + n → listTest goal before cuts s r ≡ laneTest goal cutOf r
   unfolding listTest laneTest
   list-lane r l h = go (r - s) refl
     where
-      go : (j : ℕ) → r - s ≡ j → hits goal (getD (before ∷ cuts) (r - s) 0) (getD cuts (r - s) 0) ≡ hits goal (cutBy keys timed (r - 1)) (cutBy keys timed r)
+      go : (j : ℕ) → r - s ≡ j → hits goal (getD (before ∷ cuts) (r - s) 0) (getD cuts (r - s) 0) ≡ hits goal (cutOf (r - 1)) (cutOf r)
       go zero e =
           let f : s + 0 ≡ r = omega arith in
           let g : s ≡ r = omega arith in
-          let y : getD cuts 0 0 ≡ cutBy keys timed r = rw ec (cutsBy-at keys timed n s 0 (omega arith)) ∙ ap (cutBy keys timed) f in
-          rw (e, y) (prior-hits goal (cutBy keys timed r) (λ t. eb t ∙ ap (λ (m : ℕ). cutBy keys timed (m - 1)) g))
+          let y : getD cuts 0 0 ≡ cutOf r = rw ec (cutsFrom-at cutOf n s 0 (omega arith)) ∙ ap cutOf f in
+          rw (e, y) (prior-hits goal (cutOf r) (λ t. eb t ∙ ap (λ (m : ℕ). cutOf (m - 1)) g))
       go (suc j) e =
           let f : s + suc j ≡ r = omega arith in
           let g : s + j ≡ r - 1 = omega arith in
-          let x : getD cuts j 0 ≡ cutBy keys timed (r - 1) = rw ec (cutsBy-at keys timed n s j (omega arith)) ∙ ap (cutBy keys timed) g in
-          let y : getD cuts (suc j) 0 ≡ cutBy keys timed r = rw ec (cutsBy-at keys timed n s (suc j) (omega arith)) ∙ ap (cutBy keys timed) f in
+          let x : getD cuts j 0 ≡ cutOf (r - 1) = rw ec (cutsFrom-at cutOf n s j (omega arith)) ∙ ap cutOf g in
+          let y : getD cuts (suc j) 0 ≡ cutOf r = rw ec (cutsFrom-at cutOf n s (suc j) (omega arith)) ∙ ap cutOf f in
           rw (e, x, y)
 
 -- ---- a range is searched part by part
@@ -163,69 +155,137 @@ sweep-part test s n end =
     or-none none = refl
     or-none (some x) = refl
 
-module _ (goal : Goal) (keys : List ℕ) (timed : Bool) (n s end : ℕ) {before : ℕ} {cuts : List ℕ} {f : Found} (ec : cuts ≡ cutsBy keys timed n s)
-    (eb : goal .pair ≡ true → before ≡ cutBy keys timed (s - 1))
-    (ef : f ≡ foundOf (sweep (listTest goal before cuts s) s (min (s + length cuts) end - s))) where
-  -- what the part gives
-  part-found : f ≡ foundOf (sweep (laneTest goal keys timed) s (min (s + n) end - s))
-  part-found =
-      let l : length cuts ≡ n = ap length ec ∙ length-cutsBy keys timed n s in
-      let same = sweep-same (listTest goal before cuts s) (laneTest goal keys timed) s (min (s + n) end - s) (λ r a b. list-lane goal keys timed n s ec eb r a (omega arith)) in
-      rw l at ef ∙ ap foundOf same
-
-  told : (o rest : Option ℕ) {g : Found} → g ≡ foundOf o → (a : Step) → g ≡ At a → At a ≡ foundOf (orElse o rest)
-  told none rest e a h = let z : _≡_ {A = ℕ} 0 1 = cc in absurd (omega arith)
-  told (some x) rest e a h = sym h ∙ e
-
-  left : (o rest : Option ℕ) {g : Found} → g ≡ foundOf o → g ≡ Nowhere → orElse o rest ≡ rest
-  left none rest e h = refl
-  left (some x) rest e h = let z : _≡_ {A = ℕ} 0 1 = cc in absurd (omega arith)
-
-  pub part-hit : {a : Step} → f ≡ At a → At a ≡ foundOf (sweep (laneTest goal keys timed) s (end - s))
-  part-hit {a} h =
-      rw (sweep-part (laneTest goal keys timed) s n end)
-      (told (sweep (laneTest goal keys timed) s (min (s + n) end - s)) (sweep (laneTest goal keys timed) (s + n) (end - (s + n))) part-found a h)
-
-  pub part-miss : f ≡ Nowhere → sweep (laneTest goal keys timed) s (end - s) ≡ sweep (laneTest goal keys timed) (s + n) (end - (s + n))
-  part-miss h =
-      sweep-part (laneTest goal keys timed) s n end
-      ∙ left (sweep (laneTest goal keys timed) s (min (s + n) end - s)) (sweep (laneTest goal keys timed) (s + n) (end - (s + n))) part-found h
-
--- the list of the cuts by its own length
-pub cuts-whole : (keys : List ℕ) (timed : Bool) (n first : ℕ) {ahead by : ℕ} {cuts : List ℕ} → ahead ≡ by → cuts ≡ cutsBy keys timed n (first - ahead)
-    → cuts ≡ cutsBy keys timed (length cuts) (first - by)
-cuts-whole keys timed n first {ahead} {by} {cuts} ea ec =
-    let l : length cuts ≡ n = ap length ec ∙ length-cutsBy keys timed n (first - ahead) in
-    ec ∙ ap₂ (cutsBy keys timed) (sym l) (ap (λ (m : ℕ). first - m) ea)
-
--- ---- the first part of a range: of a pair, its cuts begin with the step before
-
-drop-cuts : (keys : List ℕ) (timed : Bool) (k n s : ℕ) → drop k (cutsBy keys timed n s) ≡ cutsBy keys timed (n - k) (s + k)
-unfolding cutsBy
-drop-cuts keys timed zero n s = let e : n - 0 ≡ n = omega arith in rw (e, add-zero s)
-drop-cuts keys timed (suc k) zero s = let e : 0 - suc k ≡ 0 = omega arith in rw e
-drop-cuts keys timed (suc k) (suc n) s =
+drop-cuts : (cutOf : ℕ → ℕ) (k n s : ℕ) → drop k (cutsFrom cutOf n s) ≡ cutsFrom cutOf (n - k) (s + k)
+unfolding cutsFrom
+drop-cuts cutOf zero n s = let e : n - 0 ≡ n = omega arith in rw (e, add-zero s)
+drop-cuts cutOf (suc k) zero s = let e : 0 - suc k ≡ 0 = omega arith in rw e
+drop-cuts cutOf (suc k) (suc n) s =
     let e : suc n - suc k ≡ n - k = omega arith in
     let f : s + 1 + k ≡ s + suc k = omega arith in
-    rw (e, ← f) (drop-cuts keys timed k n (s + 1))
+    rw (e, ← f) (drop-cuts cutOf k n (s + 1))
 
-module _ (goal : Goal) (keys : List ℕ) (timed : Bool) (first : ℕ) {ahead : ℕ} {cuts : List ℕ} (ea : ahead ≡ aheadBy goal) (la : ahead ≤ 1) (within : aheadBy goal ≤ first)
-    (two : 2 ≤ length cuts) (ec : cuts ≡ cutsBy keys timed (length cuts) (first - aheadBy goal)) where
-  pub first-part : take (length cuts - ahead) (drop ahead cuts) ≡ cutsBy keys timed (length cuts - ahead) first
-  first-part =
-      let f : first - aheadBy goal + ahead ≡ first = omega (arith, ea, within) in
-      let d : drop ahead cuts ≡ cutsBy keys timed (length cuts - ahead) first =
-      ap (drop ahead) ec ∙ drop-cuts keys timed ahead (length cuts) (first - aheadBy goal) ∙ ap (cutsBy keys timed (length cuts - ahead)) f in
-      let l : length (cutsBy keys timed (length cuts - ahead) first) ≤ length cuts - ahead = let e = length-cutsBy keys timed (length cuts - ahead) first in omega (arith, e) in
-      ap (take (length cuts - ahead)) d ∙ take-all (length cuts - ahead) (cutsBy keys timed (length cuts - ahead) first) l
+told : (o rest : Option ℕ) {g : Found} → g ≡ foundOf o → (a : Step) → g ≡ At a → At a ≡ foundOf (orElse o rest)
+told none rest e a h = let z : _≡_ {A = ℕ} 0 1 = cc in absurd (omega arith)
+told (some x) rest e a h = sym h ∙ e
 
-  pub start-cut : goal .pair ≡ true → getD cuts 0 0 ≡ cutBy keys timed (first - 1)
-  start-cut t =
-      let e : aheadBy goal ≡ 1 = rw t in
-      ap (λ (l : List ℕ). getD l 0 0) ec ∙ cutsBy-at keys timed (length cuts) (first - aheadBy goal) 0 (omega (arith, two))
-      ∙ ap (cutBy keys timed) (let f : first - aheadBy goal + 0 ≡ first - 1 = omega (arith, e) in f)
+left : (o rest : Option ℕ) {g : Found} → g ≡ foundOf o → g ≡ Nowhere → orElse o rest ≡ rest
+left none rest e h = refl
+left (some x) rest e h = let z : _≡_ {A = ℕ} 0 1 = cc in absurd (omega arith)
 
-  pub last-cut : getD cuts (length cuts - 1) 0 ≡ cutBy keys timed (first + (length cuts - ahead) - 1)
-  last-cut =
-      ap (λ (l : List ℕ). getD l (length cuts - 1) 0) ec ∙ cutsBy-at keys timed (length cuts) (first - aheadBy goal) (length cuts - 1) (omega (arith, two))
-      ∙ ap (cutBy keys timed) (let f : first - aheadBy goal + (length cuts - 1) ≡ first + (length cuts - ahead) - 1 = omega (arith, ea, la, within, two) in f)
+-- a part whose cuts are those of n steps: its own, and of a pair that of the step before
+module _ (goal : Goal) (cutOf : ℕ → ℕ) (ahead before n s end : ℕ) {p : Part} (la : ahead ≤ 1) (ls : ahead ≤ s) (room : ahead < n)
+    (prior : Prior goal cutOf ahead before s) (ep : p ≡ partOf goal ahead before (cutsFrom cutOf n (s - ahead)) s end) where
+  made : length (cutsFrom cutOf n (s - ahead)) ≡ n
+  made = length-cutsFrom cutOf n (s - ahead)
+
+  own-cuts : drop ahead (cutsFrom cutOf n (s - ahead)) ≡ cutsFrom cutOf (n - ahead) s
+  own-cuts = let f : s - ahead + ahead ≡ s = omega arith in drop-cuts cutOf ahead n (s - ahead) ∙ ap (cutsFrom cutOf (n - ahead)) f
+
+  prior-cut : goal .pair ≡ true → priorOf ahead before (getD (cutsFrom cutOf n (s - ahead)) 0 0) ≡ cutOf (s - 1)
+  prior-cut t =
+      by-test (eqb ahead 0)
+      (λ z. rw z (prior t (eqb-true ahead 0 z)))
+      (λ z.
+      let w = eqb-false ahead 0 z in
+      let f : s - ahead + 0 ≡ s - 1 = one ahead la w in
+      rw z (cutsFrom-at cutOf n (s - ahead) 0 (omega arith) ∙ ap cutOf f))
+    where
+      one : (a : ℕ) → a ≤ 1 → (a ≡ 0 → ⊥) → s - a + 0 ≡ s - 1
+      one zero l w = absurd (w refl)
+      one (suc zero) l w = omega arith
+      one (suc (suc a)) l w = absurd (omega arith)
+
+  pub part-next : p .next ≡ s + (n - ahead)
+  unfolding partOf
+  part-next = ap (λ (q : Part). q .next) ep ∙ rw made
+
+  pub part-last : p .last ≡ cutOf (p .next - 1)
+  unfolding partOf
+  part-last =
+      let e : s - ahead + (n - 1) ≡ s + (n - ahead) - 1 = omega arith in
+      let at : getD (cutsFrom cutOf n (s - ahead)) (length (cutsFrom cutOf n (s - ahead)) - 1) 0 ≡ cutOf (s - ahead + (n - 1)) = rw made (cutsFrom-at cutOf n (s - ahead) (n - 1) (omega arith)) in
+      rw part-next (ap (λ (q : Part). q .last) ep ∙ at ∙ ap cutOf e)
+
+  part-found : p .found ≡ foundOf (sweep (laneTest goal cutOf) s (min (s + (n - ahead)) end - s))
+  unfolding partOf
+  part-found =
+      let start = priorOf ahead before (getD (cutsFrom cutOf n (s - ahead)) 0 0) in
+      let same = sweep-same (listTest goal start (drop ahead (cutsFrom cutOf n (s - ahead))) s) (laneTest goal cutOf) s (min (s + (n - ahead)) end - s)
+      (λ r a b. list-lane goal cutOf (n - ahead) s own-cuts prior-cut r a (omega arith)) in
+      ap (λ (q : Part). q .found) ep ∙ rw made (ap foundOf same)
+
+  pub part-hit : {a : Step} → p .found ≡ At a → At a ≡ foundOf (sweep (laneTest goal cutOf) s (end - s))
+  part-hit {a} h =
+      rw (sweep-part (laneTest goal cutOf) s (n - ahead) end)
+      (told (sweep (laneTest goal cutOf) s (min (s + (n - ahead)) end - s)) (sweep (laneTest goal cutOf) (s + (n - ahead)) (end - (s + (n - ahead)))) part-found a h)
+
+  pub part-miss : p .found ≡ Nowhere → foundOf (sweep (laneTest goal cutOf) s (end - s)) ≡ foundOf (sweep (laneTest goal cutOf) (p .next) (end - p .next))
+  part-miss h =
+      rw part-next
+      (ap foundOf
+      (sweep-part (laneTest goal cutOf) s (n - ahead) end
+      ∙ left (sweep (laneTest goal cutOf) s (min (s + (n - ahead)) end - s)) (sweep (laneTest goal cutOf) (s + (n - ahead)) (end - (s + (n - ahead)))) part-found h))
+
+-- a search begins with no cut before it: of a pair, its first part's own cuts begin there
+pub ahead-prior : (goal : Goal) (cutOf : ℕ → ℕ) (before s : ℕ) {ahead : ℕ} → ahead ≡ aheadBy goal → Prior goal cutOf ahead before s
+ahead-prior goal cutOf before s e t z = let o : aheadBy goal ≡ 1 = rw t in absurd (omega (arith, e, o, z))
+
+-- a list of cuts gives its part
+pub part-is : (goal : Goal) (ahead before : ℕ) (cuts : List ℕ) (s end : ℕ) {prior last : ℕ} {f : Found} → prior ≡ priorOf ahead before (getD cuts 0 0)
+    → f ≡ foundOf (sweep (listTest goal prior (take (length cuts - ahead) (drop ahead cuts)) s) s (min (s + length (take (length cuts - ahead) (drop ahead cuts))) end - s))
+    → last ≡ getD cuts (length cuts - 1) 0
+    → _≡_ {A = Part} (record { found = f; last = last; next = s + (length cuts - ahead) }) (partOf goal ahead before cuts s end)
+unfolding partOf
+part-is goal ahead before cuts s end ep ef el =
+    let l : length (drop ahead cuts) ≡ length cuts - ahead = length-drop ahead cuts in
+    let w : take (length cuts - ahead) (drop ahead cuts) ≡ drop ahead cuts = take-all (length cuts - ahead) (drop ahead cuts) (omega (arith, l)) in
+    rw (ef, el, w, l, ep)
+
+-- ---- the cuts by either cipher
+
+module _ (rule : Rule) (key : List ℕ) {timed : Bool} (et : timed ≡ eqb (rule .kind) timeToken) where
+  pub hashed-cut-is : (s : ℕ) → rule .algorithm ≡ algorithmSm3 → hashedCut key timed s ≡ cutAt rule key s
+  unfolding cutAt
+  hashed-cut-is s a = rw et (keyed-hashed (rule .algorithm) key (filled (stepId (eqb (rule .kind) timeToken) s)) a)
+
+  keyed-cut-is : (s : ℕ) {keys : List ℕ} → (rule .algorithm ≡ algorithmSm3 → ⊥) → keys ≡ prepared 4 key → s < 2 ^ 64 → cutBy keys timed s ≡ cutAt rule key s
+  unfolding cutAt
+  keyed-cut-is s a ek h = rw (ek, et) (sym (step-cut key (eqb (rule .kind) timeToken) s h) ∙ keyed-chained (rule .algorithm) key (filled (stepId (eqb (rule .kind) timeToken) s)) a)
+
+  module _ (goal : Goal) (ahead before s end : ℕ) {r : Part} where
+    pub keyed-part : (n : ℕ) {keys cuts : List ℕ} → (rule .algorithm ≡ algorithmSm3 → ⊥) → keys ≡ prepared 4 key → s + n ≤ 2 ^ 64
+        → cuts ≡ cutsFrom (cutBy keys timed) n (s - ahead) → r ≡ partOf goal ahead before cuts s end
+        → r ≡ partOf goal ahead before (cutsFrom (cutAt rule key) n (s - ahead)) s end
+    keyed-part n {keys} a ek h ec er =
+        let e = same-cuts (cutBy keys timed) (cutAt rule key) n (s - ahead) (2 ^ 64) (omega arith) (λ x l. keyed-cut-is x a ek l) in
+        er ∙ ap (λ (l : List ℕ). partOf goal ahead before l s end) (ec ∙ e)
+
+    pub next-keyed : {keys cuts : List ℕ} → (rule .algorithm ≡ algorithmSm3 → ⊥) → keys ≡ prepared 4 key → s ≤ 2 ^ 63
+        → cuts ≡ cutsFrom (cutBy keys timed) 5 (s - ahead) → r ≡ partOf goal ahead before cuts s end
+        → r ≡ partOf goal ahead before (cutsFrom (cutAt rule key) (width (rule .algorithm) (end - (s - ahead))) (s - ahead)) s end
+    unfolding width
+    next-keyed a ek h ec er = rw (ne-eqb (rule .algorithm) algorithmSm3 a) (keyed-part 5 a ek (omega arith) ec er)
+
+    pub next-alone : {x : ℕ} → rule .algorithm ≡ algorithmSm3 → end - (s - ahead) ≡ 1 → x ≡ hashedCut key timed (s - ahead) → r ≡ partOf goal ahead before (x ∷ []) s end
+        → r ≡ partOf goal ahead before (cutsFrom (cutAt rule key) (width (rule .algorithm) (end - (s - ahead))) (s - ahead)) s end
+    unfolding width cutsFrom
+    next-alone a one ex er =
+        rw (eq-eqb (rule .algorithm) algorithmSm3 a, eq-eqb (end - (s - ahead)) 1 one) (er ∙ ap (λ (y : ℕ). partOf goal ahead before (y ∷ []) s end) (ex ∙ hashed-cut-is (s - ahead) a))
+
+    pub next-four : {cuts : List ℕ} → rule .algorithm ≡ algorithmSm3 → (end - (s - ahead) ≡ 1 → ⊥) → cuts ≡ cutsFrom (hashedCut key timed) 4 (s - ahead)
+        → r ≡ partOf goal ahead before cuts s end
+        → r ≡ partOf goal ahead before (cutsFrom (cutAt rule key) (width (rule .algorithm) (end - (s - ahead))) (s - ahead)) s end
+    unfolding width
+    next-four a more ec er =
+        let e = same-cuts (hashedCut key timed) (cutAt rule key) 4 (s - ahead) (s - ahead + 4) (omega arith) (λ x l. hashed-cut-is x a) in
+        rw (eq-eqb (rule .algorithm) algorithmSm3 a, ne-eqb (end - (s - ahead)) 1 more) (er ∙ ap (λ (l : List ℕ). partOf goal ahead before l s end) (ec ∙ e))
+
+-- a part goes on by at least a step, and by no more than five
+pub width-room : (algorithm ahead s end : ℕ) → ahead ≤ 1 → ahead ≤ s → s < end → (ahead < width algorithm (end - (s - ahead))) × (width algorithm (end - (s - ahead)) ≤ 5)
+unfolding width
+width-room algorithm ahead s end la ls h =
+    by-test (eqb algorithm algorithmSm3)
+    (λ t. by-test (eqb (end - (s - ahead)) 1)
+    (λ u. let e = eqb-true (end - (s - ahead)) 1 u in rw (t, u) (omega arith, omega arith))
+    (λ u. rw (t, u) (omega arith, omega arith)))
+    (λ t. rw t (omega arith, omega arith))

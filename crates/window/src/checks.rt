@@ -7,7 +7,7 @@ use crate::TIME_TOKEN;
 use crate::Track;
 use crate::lanes::goal_of;
 use crate::lanes::search_again;
-use crate::lanes::search_keyed;
+use crate::lanes::search_first;
 use crate::matching::ahead_of;
 use crate::range::FARTHEST;
 use crate::range::candidates;
@@ -28,9 +28,6 @@ ghost use Rattle.window.specs.Check.{accepting};
 ghost use Rattle.window.specs.SearchLaws.{usedOrWrong};
 ghost use Rattle.window.specs.TokenCheck.{tooFar, checkOf};
 ghost use Rattle.window.specs.PasswordAtLaws.{inRange, countsRight};
-
-// The algorithm whose candidates go side by side.
-const SM4: u8 = 4;
 
 // Whether the presented passwords have as many digits as the token's.
 fn counts_right(digits: u8, presented: &[u8], following: &[u8]) -> bool
@@ -94,7 +91,7 @@ fn used_or_wrong(found: Found) -> Outcome
     }
 }
 
-// Steps that could be accepted are searched, fresh ones first: if one matches, no used one counts.
+// With a challenge, one step after the other. Steps that could be accepted are searched, fresh ones first: if one matches, no used one counts.
 fn searched(
     track: Track,
     clock: Seconds,
@@ -135,7 +132,7 @@ fn searched(
     ))
 }
 
-// The same by SM4 without a challenge, several steps at once. The first of them make the round keys, which serve all later ones.
+// The same without a challenge, several steps at once. SM4's first make the round keys, which serve all later ones.
 fn searched_in_lanes(
     track: Track,
     clock: Seconds,
@@ -147,27 +144,23 @@ fn searched_in_lanes(
 ) -> Outcome
     requires { ⌜ Sound track (clock .0) ⌝ }
     requires { ⌜ inRange (track .rule) (now key) (now challenge) ≡ true ⌝ }
-    requires { ⌜ track .rule .algorithm ≡ 4 ⌝ }
     requires { ⌜ length (now challenge) ≡ 0 ⌝ }
     requires { ⌜ countsRight (track .rule .digits) (now presented) (now following) ≡ true ⌝ }
     ensures { λ r. ⌜ r ≡ checkOf track (clock .0) size (now (key .entry)) (now (challenge .entry)) (now (presented .entry)) (now (following .entry)) ⌝ }
 {
     let goal = goal_of(track.rule.digits, presented, following);
-    let timed = track.rule.kind == TIME_TOKEN;
+    let rule = track.rule;
     let ahead = ahead_of(following);
     let ranges = parted(track, clock, size, ahead);
     let first = ranges.first + ahead;
     let mut keys = [0u32; 32];
     if ranges.end <= ranges.fresh {
-        if ranges.used <= first {
-            return Outcome::Wrong;
-        }
-        return used_or_wrong(search_keyed(goal, key, timed, first, ranges.used, &mut keys));
+        return used_or_wrong(search_first(goal, rule, key, first, ranges.used, &mut keys));
     }
-    if let Found::At(a) = search_keyed(goal, key, timed, ranges.fresh, ranges.end, &mut keys) {
+    if let Found::At(a) = search_first(goal, rule, key, ranges.fresh, ranges.end, &mut keys) {
         return accept(track, clock, a.0);
     }
-    used_or_wrong(search_again(goal, &keys, timed, first, ranges.used))
+    used_or_wrong(search_again(goal, rule, key, &keys, first, ranges.used))
 }
 
 // The check of one presented password, or of two as a pair; following is empty where there is one.
@@ -187,7 +180,7 @@ pub fn check(
     if !counts_right(track.rule.digits, presented, following) {
         return Outcome::Wrong;
     }
-    if (track.rule.algorithm == SM4) & (challenge.len() == 0) {
+    if challenge.len() == 0 {
         return searched_in_lanes(track, clock, size, key, challenge, presented, following);
     }
     searched(track, clock, size, key, challenge, presented, following)

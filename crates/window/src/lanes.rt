@@ -1,19 +1,24 @@
-// The search by SM4 without a challenge: the cuts of several steps are made side by side, and numbers are compared.
+// The search without a challenge: the cuts of several steps are made side by side, and numbers are compared.
+use crate::Rule;
 use crate::Step;
+use crate::TIME_TOKEN;
 use crate::range::smaller;
 use crate::search::Found;
 use otp::cuts::first_cuts;
 use otp::cuts::next_cuts;
 use otp::number::number_of;
 use otp::number::ten_to;
+use otp::steps::hashed_cut;
+use otp::steps::hashed_cuts;
 ghost use mathlib.Core.Path.{_≡_};
 ghost use Prim.Native.Nat.{_+_, _-_, _^_, _≤_, _<_, min};
 ghost use lib.ListN.{length};
-ghost use Rattle.otp.specs.ChainLaws.{prepared};
-ghost use Rattle.otp.specs.StepCuts.{cutBy, cutsBy};
+ghost use Rattle.otp.specs.StepCuts.{cutsFrom};
 ghost use Rattle.window.specs.CheckLaws.{sweep};
 ghost use Rattle.window.specs.SearchLaws.{foundOf};
-ghost use Rattle.window.specs.Lanes.{goalOf, aheadBy, hits, laneTest, listTest};
+ghost use Rattle.window.specs.Lanes.{goalOf, aheadBy, hits, cutAt, laneTest, listTest, priorOf, Prior, partOf, width, Keyed};
+
+const SM3: u8 = 3;
 
 // The numbers that are searched for: of a pair, that of the step before the accepted one and that of the accepted one.
 pub struct Goal {
@@ -91,86 +96,161 @@ fn first_among(goal: Goal, before: u32, cuts: &[u32], s: u64, end: u64) -> Found
     }
 }
 
-// The search from first on, five steps at once; before is the cut of the step before first.
-fn search_on(goal: Goal, keys: &[u32], timed: bool, before: u32, first: u64, end: u64) -> Found
-    requires { ⌜ 0 < goal .modulus ⌝ }
-    requires { ⌜ length (now keys) ≡ 32 ⌝ }
-    requires { ⌜ before ≡ cutBy (now keys) timed (first - 1) ⌝ }
-    requires { ⌜ end ≤ 2 ^ 62 ⌝ }
-    ensures { λ r. ⌜ r ≡ foundOf (sweep (laneTest goal (now (keys .entry)) timed) first (end - first)) ⌝ }
+// What a part of a search finds, the last of its cuts, and the step where the next part begins.
+pub struct Part {
+    pub found: Found,
+    pub last: u32,
+    pub next: u64,
+}
+
+fn prior_of(ahead: u64, before: u32, start: u32) -> u32
+    ensures { λ r. ⌜ r ≡ priorOf ahead before start ⌝ }
 {
+    if ahead == 0 { before } else { start }
+}
+
+// The part from s on whose cuts are made: they begin ahead of s with the step before, or before is that step's.
+fn part_of(goal: Goal, ahead: u64, before: u32, cuts: &[u32], s: u64, end: u64) -> Part
+    requires { ⌜ 0 < goal .modulus ⌝ }
+    requires { ⌜ ahead < length (now cuts) ⌝ }
+    requires { ⌜ length (now cuts) ≤ 5 ⌝ }
+    requires { ⌜ s ≤ 2 ^ 62 ⌝ }
+    ensures { λ r. ⌜ r ≡ partOf goal ahead before (now (cuts .entry)) s end ⌝ }
+{
+    let made = cuts.len();
+    let skipped = ahead as usize;
+    let prior = prior_of(ahead, before, cuts[0]);
+    let last = cuts[made - 1];
+    let found = first_among(goal, prior, &cuts[skipped..made], s, end);
+    Part {
+        found,
+        last,
+        next: s + (made - skipped) as u64,
+    }
+}
+
+// The part from s on. By SM3, one step that is left alone costs less than four side by side.
+fn next_part(
+    goal: Goal,
+    rule: Rule,
+    key: &[u8],
+    keys: &[u32],
+    ahead: u64,
+    before: u32,
+    s: u64,
+    end: u64,
+) -> Part
+    requires { ⌜ 0 < goal .modulus ⌝ }
+    requires { ⌜ length (now key) ≤ 32 ⌝ }
+    requires { ⌜ Keyed rule (now key) (now keys) ⌝ }
+    requires { ⌜ ahead ≤ 1 ⌝ }
+    requires { ⌜ ahead ≤ s ⌝ }
+    requires { ⌜ s < end ⌝ }
+    requires { ⌜ end ≤ 2 ^ 62 ⌝ }
+    ensures { λ r. ⌜ r ≡ partOf goal ahead before (cutsFrom (cutAt rule (now (key .entry))) (width (rule .algorithm) (end - (s - ahead))) (s - ahead)) s end ⌝ }
+{
+    let timed = rule.kind == TIME_TOKEN;
+    let start = s - ahead;
+    if rule.algorithm != SM3 {
+        let cuts = next_cuts(keys, timed, start);
+        return part_of(goal, ahead, before, &cuts, s, end);
+    }
+    if end - start == 1 {
+        let cuts = [hashed_cut(key, timed, start)];
+        return part_of(goal, ahead, before, &cuts, s, end);
+    }
+    let cuts = hashed_cuts(key, timed, start);
+    part_of(goal, ahead, before, &cuts, s, end)
+}
+
+// The search from first on, part by part.
+fn search_on(
+    goal: Goal,
+    rule: Rule,
+    key: &[u8],
+    keys: &[u32],
+    ahead: u64,
+    before: u32,
+    first: u64,
+    end: u64,
+) -> Found
+    requires { ⌜ 0 < goal .modulus ⌝ }
+    requires { ⌜ length (now key) ≤ 32 ⌝ }
+    requires { ⌜ Keyed rule (now key) (now keys) ⌝ }
+    requires { ⌜ ahead ≤ 1 ⌝ }
+    requires { ⌜ ahead ≤ first ⌝ }
+    requires { ⌜ Prior goal (cutAt rule (now key)) ahead before first ⌝ }
+    requires { ⌜ end ≤ 2 ^ 62 ⌝ }
+    ensures { λ r. ⌜ r ≡ foundOf (sweep (laneTest goal (cutAt rule (now (key .entry)))) first (end - first)) ⌝ }
+{
+    let mut lead = ahead;
     let mut prior = before;
     let mut s = first;
     loop {
         if end <= s {
             break Found::Nowhere;
         }
-        let cuts = next_cuts(keys, timed, s);
-        if let Found::At(a) = first_among(goal, prior, &cuts, s, end) {
+        let part = next_part(goal, rule, key, keys, lead, prior, s, end);
+        let found = part.found;
+        if let Found::At(a) = found {
             break Found::At(a);
         }
-        prior = cuts[4];
-        s += 5;
+        lead = 0;
+        prior = part.last;
+        s = part.next;
     }
 }
 
-// The search from first on, where the first cuts are made: of a pair they begin with the step before first.
-fn search_from(goal: Goal, keys: &[u32], timed: bool, cuts: &[u32], first: u64, end: u64) -> Found
-    requires { ⌜ 0 < goal .modulus ⌝ }
-    requires { ⌜ length (now keys) ≡ 32 ⌝ }
-    requires { ⌜ 2 ≤ length (now cuts) ⌝ }
-    requires { ⌜ length (now cuts) ≤ 5 ⌝ }
-    requires { ⌜ aheadBy goal ≤ first ⌝ }
-    requires { ⌜ now cuts ≡ cutsBy (now keys) timed (length (now cuts)) (first - aheadBy goal) ⌝ }
-    requires { ⌜ first ≤ 2 ^ 62 ⌝ }
-    requires { ⌜ end ≤ 2 ^ 62 ⌝ }
-    ensures { λ r. ⌜ r ≡ foundOf (sweep (laneTest goal (now (keys .entry)) timed) first (end - first)) ⌝ }
-{
-    let made = cuts.len();
-    let ahead = ahead_by(goal) as usize;
-    let start = cuts[0];
-    let last = cuts[made - 1];
-    if let Found::At(a) = first_among(goal, start, &cuts[ahead..made], first, end) {
-        return Found::At(a);
-    }
-    let next = first + (made - ahead) as u64;
-    search_on(goal, keys, timed, last, next, end)
-}
-
-// The smallest step from first up to, not including, end that hits. The round keys are left in keys.
-pub(crate) fn search_keyed(
+// The smallest step from first up to, not including, end that hits. SM4's round keys are left in keys, if there is a step.
+pub(crate) fn search_first(
     goal: Goal,
+    rule: Rule,
     key: &[u8],
-    timed: bool,
     first: u64,
     end: u64,
     keys: &mut [u32],
 ) -> Found
     requires { ⌜ 0 < goal .modulus ⌝ }
     requires { ⌜ 16 ≤ length (now key) ⌝ }
+    requires { ⌜ length (now key) ≤ 32 ⌝ }
     requires { ⌜ length (now keys) ≡ 32 ⌝ }
     requires { ⌜ aheadBy goal ≤ first ⌝ }
-    requires { ⌜ first ≤ 2 ^ 62 ⌝ }
     requires { ⌜ end ≤ 2 ^ 62 ⌝ }
-    ensures { λ r. ⌜ r ≡ foundOf (sweep (laneTest goal (prepared 4 (now (key .entry))) timed) first (end - first)) ⌝ }
-    ensures { λ _. ⌜ now (keys .exit) ≡ prepared 4 (now (key .entry)) ⌝ }
-{
-    let cuts = first_cuts(key, timed, first - ahead_by(goal), keys);
-    search_from(goal, keys, timed, &cuts, first, end)
-}
-
-// The same under round keys.
-pub(crate) fn search_again(goal: Goal, keys: &[u32], timed: bool, first: u64, end: u64) -> Found
-    requires { ⌜ 0 < goal .modulus ⌝ }
-    requires { ⌜ length (now keys) ≡ 32 ⌝ }
-    requires { ⌜ aheadBy goal ≤ first ⌝ }
-    requires { ⌜ first ≤ 2 ^ 62 ⌝ }
-    requires { ⌜ end ≤ 2 ^ 62 ⌝ }
-    ensures { λ r. ⌜ r ≡ foundOf (sweep (laneTest goal (now (keys .entry)) timed) first (end - first)) ⌝ }
+    ensures { λ r. ⌜ r ≡ foundOf (sweep (laneTest goal (cutAt rule (now (key .entry)))) first (end - first)) ⌝ }
+    ensures { λ _. ⌜ (first < end → Keyed rule (now (key .entry)) (now (keys .exit))) ⌝ }
 {
     if end <= first {
         return Found::Nowhere;
     }
-    let cuts = next_cuts(keys, timed, first - ahead_by(goal));
-    search_from(goal, keys, timed, &cuts, first, end)
+    let ahead = ahead_by(goal);
+    if rule.algorithm == SM3 {
+        return search_on(goal, rule, key, keys, ahead, 0, first, end);
+    }
+    let timed = rule.kind == TIME_TOKEN;
+    let cuts = first_cuts(key, timed, first - ahead, keys);
+    let part = part_of(goal, ahead, 0, &cuts, first, end);
+    let found = part.found;
+    if let Found::At(a) = found {
+        return Found::At(a);
+    }
+    search_on(goal, rule, key, keys, 0, part.last, part.next, end)
+}
+
+// The same where SM4 has its round keys.
+pub(crate) fn search_again(
+    goal: Goal,
+    rule: Rule,
+    key: &[u8],
+    keys: &[u32],
+    first: u64,
+    end: u64,
+) -> Found
+    requires { ⌜ 0 < goal .modulus ⌝ }
+    requires { ⌜ length (now key) ≤ 32 ⌝ }
+    requires { ⌜ Keyed rule (now key) (now keys) ⌝ }
+    requires { ⌜ aheadBy goal ≤ first ⌝ }
+    requires { ⌜ end ≤ 2 ^ 62 ⌝ }
+    ensures { λ r. ⌜ r ≡ foundOf (sweep (laneTest goal (cutAt rule (now (key .entry)))) first (end - first)) ⌝ }
+{
+    search_on(goal, rule, key, keys, ahead_by(goal), 0, first, end)
 }

@@ -1,3 +1,4 @@
+use Rattle.otp.specs.StepCuts.{cutBy}
 use Rattle.otp.specs.StepCutsLaws.{three-cuts, lane-cut}
 use Rattle.otp.specs.ChainLaws.{prepared}
 use Prim.Native.Nat.{_+_}
@@ -45,7 +46,7 @@ same-length : tie.Need-same-length
 same-length c = search needs
 
 returns : tie.Need-returns
-returns c = (three-cuts (prepared 4 (c .before .before .before .before .before .before .before .before .before .before .before .before .before .before .before .before .args .key .now)) (c .before .before .before .before .before .before .before .before .before .before .before .before .before .before .before .before .args .timed) (c .before .before .before .before .before .before .before .before .before .before .before .before .before .before .before .before .args .s) (lane-cut (prepared 4 (c .before .before .before .before .before .before .before .before .before .before .before .before .before .before .before .before .args .key .now)) (c .before .before .before .before .before .before .before .before .before .before .before .before .before .before .before .before .args .timed) (c .before .before .before .before .before .before .before .before .before .before .before .before .before .before .before .before .args .s) (c .before .before .before .before .before .before .before .before .before .before .before .before .before .block-of .ensures) (c .before .before .before .before .before .before .before .before .first-three .ensures .0) (c .before .before .cut-words .ensures)) (lane-cut (prepared 4 (c .before .before .before .before .before .before .before .before .before .before .before .before .before .before .before .before .args .key .now)) (c .before .before .before .before .before .before .before .before .before .before .before .before .before .before .before .before .args .timed) (c .before .before .before .before .before .before .before .before .before .before .before .before .before .before .before .before .args .s + 1) (c .before .before .before .before .before .before .before .before .before .before .before .before .block-of2 .ensures) (c .before .before .before .before .before .before .before .before .first-three .ensures .1 .0) (c .before .cut-words2 .ensures)) (lane-cut (prepared 4 (c .before .before .before .before .before .before .before .before .before .before .before .before .before .before .before .before .args .key .now)) (c .before .before .before .before .before .before .before .before .before .before .before .before .before .before .before .before .args .timed) (c .before .before .before .before .before .before .before .before .before .before .before .before .before .before .before .before .args .s + 2) (c .before .before .before .before .before .before .before .before .before .before .before .block-of3 .ensures) (c .before .before .before .before .before .before .before .before .first-three .ensures .1 .1 .0) (c .cut-words3 .ensures)), c .before .before .before .before .before .before .before .before .first-three .ensures .1 .1 .1)
+returns c = (three-cuts (cutBy (prepared 4 (c .before .before .before .before .before .before .before .before .before .before .before .before .before .before .before .before .args .key .now)) (c .before .before .before .before .before .before .before .before .before .before .before .before .before .before .before .before .args .timed)) (c .before .before .before .before .before .before .before .before .before .before .before .before .before .before .before .before .args .s) (lane-cut (prepared 4 (c .before .before .before .before .before .before .before .before .before .before .before .before .before .before .before .before .args .key .now)) (c .before .before .before .before .before .before .before .before .before .before .before .before .before .before .before .before .args .timed) (c .before .before .before .before .before .before .before .before .before .before .before .before .before .before .before .before .args .s) (c .before .before .before .before .before .before .before .before .before .before .before .before .before .block-of .ensures) (c .before .before .before .before .before .before .before .before .first-three .ensures .0) (c .before .before .cut-words .ensures)) (lane-cut (prepared 4 (c .before .before .before .before .before .before .before .before .before .before .before .before .before .before .before .before .args .key .now)) (c .before .before .before .before .before .before .before .before .before .before .before .before .before .before .before .before .args .timed) (c .before .before .before .before .before .before .before .before .before .before .before .before .before .before .before .before .args .s + 1) (c .before .before .before .before .before .before .before .before .before .before .before .before .block-of2 .ensures) (c .before .before .before .before .before .before .before .before .first-three .ensures .1 .0) (c .before .cut-words2 .ensures)) (lane-cut (prepared 4 (c .before .before .before .before .before .before .before .before .before .before .before .before .before .before .before .before .args .key .now)) (c .before .before .before .before .before .before .before .before .before .before .before .before .before .before .before .before .args .timed) (c .before .before .before .before .before .before .before .before .before .before .before .before .before .before .before .before .args .s + 2) (c .before .before .before .before .before .before .before .before .before .before .before .block-of3 .ensures) (c .before .before .before .before .before .before .before .before .first-three .ensures .1 .1 .0) (c .cut-words3 .ensures)), c .before .before .before .before .before .before .before .before .first-three .ensures .1 .1 .1)
 
 pub first-cuts-spec : {M : Type 1} → statement M
 first-cuts-spec =

@@ -1,3 +1,4 @@
+use Rattle.otp.specs.StepCuts.{cutBy}
 use Rattle.otp.specs.StepCutsLaws.{five-cuts, lane-cut}
 use Prim.Native.Nat.{_+_}
 use borrow.Author.Needs.{needs}
@@ -50,7 +51,7 @@ cut-words-requires-5 : tie.Need-cut-words-requires-5
 cut-words-requires-5 c κs = search needs
 
 returns : tie.Need-returns
-returns c = five-cuts (c .before .before .before .before .before .before .before .before .before .before .before .before .before .before .before .before .before .args .keys .now) (c .before .before .before .before .before .before .before .before .before .before .before .before .before .before .before .before .before .args .timed) (c .before .before .before .before .before .before .before .before .before .before .before .before .before .before .before .before .before .args .s) (lane-cut (c .before .before .before .before .before .before .before .before .before .before .before .before .before .before .before .before .before .args .keys .now) (c .before .before .before .before .before .before .before .before .before .before .before .before .before .before .before .before .before .args .timed) (c .before .before .before .before .before .before .before .before .before .before .before .before .before .before .before .before .before .args .s) (c .before .before .before .before .before .before .before .before .before .before .before .before .before .before .before .block-of .ensures) (c .before .before .before .before .before .before .before .before .before .before .five-blocks .ensures .0) (c .before .before .before .before .cut-words .ensures)) (lane-cut (c .before .before .before .before .before .before .before .before .before .before .before .before .before .before .before .before .before .args .keys .now) (c .before .before .before .before .before .before .before .before .before .before .before .before .before .before .before .before .before .args .timed) (c .before .before .before .before .before .before .before .before .before .before .before .before .before .before .before .before .before .args .s + 1) (c .before .before .before .before .before .before .before .before .before .before .before .before .before .before .block-of2 .ensures) (c .before .before .before .before .before .before .before .before .before .before .five-blocks .ensures .1 .0) (c .before .before .before .cut-words2 .ensures)) (lane-cut (c .before .before .before .before .before .before .before .before .before .before .before .before .before .before .before .before .before .args .keys .now) (c .before .before .before .before .before .before .before .before .before .before .before .before .before .before .before .before .before .args .timed) (c .before .before .before .before .before .before .before .before .before .before .before .before .before .before .before .before .before .args .s + 2) (c .before .before .before .before .before .before .before .before .before .before .before .before .before .block-of3 .ensures) (c .before .before .before .before .before .before .before .before .before .before .five-blocks .ensures .1 .1 .0) (c .before .before .cut-words3 .ensures)) (lane-cut (c .before .before .before .before .before .before .before .before .before .before .before .before .before .before .before .before .before .args .keys .now) (c .before .before .before .before .before .before .before .before .before .before .before .before .before .before .before .before .before .args .timed) (c .before .before .before .before .before .before .before .before .before .before .before .before .before .before .before .before .before .args .s + 3) (c .before .before .before .before .before .before .before .before .before .before .before .before .block-of4 .ensures) (c .before .before .before .before .before .before .before .before .before .before .five-blocks .ensures .1 .1 .1 .0) (c .before .cut-words4 .ensures)) (lane-cut (c .before .before .before .before .before .before .before .before .before .before .before .before .before .before .before .before .before .args .keys .now) (c .before .before .before .before .before .before .before .before .before .before .before .before .before .before .before .before .before .args .timed) (c .before .before .before .before .before .before .before .before .before .before .before .before .before .before .before .before .before .args .s + 4) (c .before .before .before .before .before .before .before .before .before .before .before .block-of5 .ensures) (c .before .before .before .before .before .before .before .before .before .before .five-blocks .ensures .1 .1 .1 .1) (c .cut-words5 .ensures))
+returns c = five-cuts (cutBy (c .before .before .before .before .before .before .before .before .before .before .before .before .before .before .before .before .before .args .keys .now) (c .before .before .before .before .before .before .before .before .before .before .before .before .before .before .before .before .before .args .timed)) (c .before .before .before .before .before .before .before .before .before .before .before .before .before .before .before .before .before .args .s) (lane-cut (c .before .before .before .before .before .before .before .before .before .before .before .before .before .before .before .before .before .args .keys .now) (c .before .before .before .before .before .before .before .before .before .before .before .before .before .before .before .before .before .args .timed) (c .before .before .before .before .before .before .before .before .before .before .before .before .before .before .before .before .before .args .s) (c .before .before .before .before .before .before .before .before .before .before .before .before .before .before .before .block-of .ensures) (c .before .before .before .before .before .before .before .before .before .before .five-blocks .ensures .0) (c .before .before .before .before .cut-words .ensures)) (lane-cut (c .before .before .before .before .before .before .before .before .before .before .before .before .before .before .before .before .before .args .keys .now) (c .before .before .before .before .before .before .before .before .before .before .before .before .before .before .before .before .before .args .timed) (c .before .before .before .before .before .before .before .before .before .before .before .before .before .before .before .before .before .args .s + 1) (c .before .before .before .before .before .before .before .before .before .before .before .before .before .before .block-of2 .ensures) (c .before .before .before .before .before .before .before .before .before .before .five-blocks .ensures .1 .0) (c .before .before .before .cut-words2 .ensures)) (lane-cut (c .before .before .before .before .before .before .before .before .before .before .before .before .before .before .before .before .before .args .keys .now) (c .before .before .before .before .before .before .before .before .before .before .before .before .before .before .before .before .before .args .timed) (c .before .before .before .before .before .before .before .before .before .before .before .before .before .before .before .before .before .args .s + 2) (c .before .before .before .before .before .before .before .before .before .before .before .before .before .block-of3 .ensures) (c .before .before .before .before .before .before .before .before .before .before .five-blocks .ensures .1 .1 .0) (c .before .before .cut-words3 .ensures)) (lane-cut (c .before .before .before .before .before .before .before .before .before .before .before .before .before .before .before .before .before .args .keys .now) (c .before .before .before .before .before .before .before .before .before .before .before .before .before .before .before .before .before .args .timed) (c .before .before .before .before .before .before .before .before .before .before .before .before .before .before .before .before .before .args .s + 3) (c .before .before .before .before .before .before .before .before .before .before .before .before .block-of4 .ensures) (c .before .before .before .before .before .before .before .before .before .before .five-blocks .ensures .1 .1 .1 .0) (c .before .cut-words4 .ensures)) (lane-cut (c .before .before .before .before .before .before .before .before .before .before .before .before .before .before .before .before .before .args .keys .now) (c .before .before .before .before .before .before .before .before .before .before .before .before .before .before .before .before .before .args .timed) (c .before .before .before .before .before .before .before .before .before .before .before .before .before .before .before .before .before .args .s + 4) (c .before .before .before .before .before .before .before .before .before .before .before .block-of5 .ensures) (c .before .before .before .before .before .before .before .before .before .before .five-blocks .ensures .1 .1 .1 .1) (c .cut-words5 .ensures))
 
 pub next-cuts-spec : {M : Type 1} → statement M
 next-cuts-spec =

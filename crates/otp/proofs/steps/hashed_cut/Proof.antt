@@ -1,5 +1,5 @@
 use mathlib.Core.Path.{_∙_}
-use Rattle.otp.specs.StepLaws.{stepId}
+use Rattle.otp.specs.StepCuts.{stepId}
 use borrow.Author.Needs.{needs}
 use Rattle.otp.proofs.steps.hashed_cut.Statement.{statement}
 use Rattle.otp.proofs.steps.hashed_cut.Tie as tie

@@ -1,8 +1,5 @@
-use lib.ListN.{length}
-use lib.Dec.{eqb}
 use Rattle.window.specs.TokenCheckLaws.{check-counted}
-use Rattle.words.specs.Tables.{and-left, and-right}
-use borrow.Author.Tests.{not-true, not-false, eqb-true}
+use borrow.Author.Tests.{not-true, not-false}
 use mathlib.Core.Path.{sym, _∙_}
 use borrow.Author.Needs.{needs}
 use Rattle.window.proofs.checks.check.Statement.{statement}
@@ -15,7 +12,7 @@ returns : tie.Need-returns
 returns c = check-counted (c .before .before .before .before .before .before .args .track) (c .before .before .before .before .before .before .args .clock .0) (c .before .before .before .before .before .before .args .size) (c .before .before .before .before .before .before .args .key .now) (c .before .before .before .before .before .before .args .challenge .now) (c .before .before .before .before .before .before .args .presented .now) (c .before .before .before .before .before .before .args .following .now) (sym (c .before .counts-right .ensures) ∙ not-true _ (c .if1 .taken))
 
 searched-in-lanes-requires : tie.Need-searched-in-lanes-requires
-searched-in-lanes-requires c κs = (c .before .before .before .before .before .before .before .before .pre .0, (c .before .before .before .before .before .before .before .before .pre .1, (eqb-true (c .before .before .before .before .before .before .before .before .args .track .rule .algorithm) 4 (and-left (eqb (c .before .before .before .before .before .before .before .before .args .track .rule .algorithm) 4) (eqb (length (c .before .before .before .before .before .before .before .before .args .challenge .now)) 0) (c .if2 .taken)), (eqb-true (length (c .before .before .before .before .before .before .before .before .args .challenge .now)) 0 (and-right (eqb (c .before .before .before .before .before .before .before .before .args .track .rule .algorithm) 4) (eqb (length (c .before .before .before .before .before .before .before .before .args .challenge .now)) 0) (c .if2 .taken)), sym (c .before .before .before .counts-right .ensures) ∙ not-false _ (c .before .before .if1 .left)))))
+searched-in-lanes-requires c κs = (c .before .before .before .before .before .before .before .pre .0, (c .before .before .before .before .before .before .before .pre .1, (c .if2 .taken, sym (c .before .before .counts-right .ensures) ∙ not-false _ (c .before .if1 .left))))
 
 returns-2 : tie.Need-returns-2
 returns-2 c = search needs

@@ -1,18 +1,16 @@
-use Rattle.window.specs.LanesCheckLaws.{presented-fits, goal-modulus, range-small, ranges-ahead, lanes-none, lanes-used, lanes-accepts, lanes-rest}
+use Rattle.window.specs.LanesCheckLaws.{presented-fits, goal-modulus, range-small, ranges-ahead, lanes-used, lanes-accepts, lanes-rest}
 use Rattle.window.specs.TokenCheckLaws.{first-fits}
 use Rattle.window.specs.PasswordAtLaws.{digits-fit, ahead-le}
 use Rattle.otp.specs.declared.Factor.the-variants.{Absent, Present}
-use Rattle.otp.specs.ChainLaws.{length-prepared}
-use Rattle.otp.specs.PasswordLaws.{key-long}
-use lib.ListN.{length}
-use mathlib.Core.Path.{refl, ap, _∙_}
+use Rattle.otp.specs.PasswordLaws.{key-long, key-short}
+use mathlib.Core.Path.{refl}
 use native.Mathlib.Omega.{arith}
 use borrow.Author.Needs.{needs}
 use Rattle.window.proofs.checks.searched_in_lanes.Statement.{statement}
 use Rattle.window.proofs.checks.searched_in_lanes.Tie as tie
 
 goal-of-requires : tie.Need-goal-of-requires
-goal-of-requires c κs = let d = digits-fit (c .before .before .before .before .args .track .rule) (c .before .before .before .before .args .key .now) (c .before .before .before .before .args .challenge .now) (c .before .before .before .before .pre .1 .0) in (d, presented-fits (c .before .before .before .before .args .track .rule .digits) (c .before .before .before .before .args .presented .now) (c .before .before .before .before .args .following .now) d (c .before .before .before .before .pre .1 .1 .1 .1))
+goal-of-requires c κs = let d = digits-fit (c .before .before .before .before .args .track .rule) (c .before .before .before .before .args .key .now) (c .before .before .before .before .args .challenge .now) (c .before .before .before .before .pre .1 .0) in (d, presented-fits (c .before .before .before .before .args .track .rule .digits) (c .before .before .before .before .args .presented .now) (c .before .before .before .before .args .following .now) d (c .before .before .before .before .pre .1 .1 .1))
 
 ahead-of-requires : tie.Need-ahead-of-requires
 ahead-of-requires c κs = search needs
@@ -23,26 +21,23 @@ parted-requires c κs = (c .before .before .before .before .before .before .befo
 add-first : tie.Need-add-first
 add-first c = omega (arith, c .before .parted .ensures .0, first-fits (c .before .before .before .before .before .before .before .before .before .args .track) (c .before .before .before .before .before .before .before .before .before .args .clock .0) (c .before .before .before .before .before .before .before .before .before .args .size) (c .before .before .before .before .before .before .before .before .before .pre .0), c .before .before .ahead-of .ensures, ahead-le (c .before .before .before .before .before .before .before .before .before .args .following .now))
 
-returns : tie.Need-returns
-returns c = lanes-none (c .before .before .before .before .before .before .before .before .before .before .before .before .before .args .track) (c .before .before .before .before .before .before .before .before .before .before .before .before .before .args .clock .0) (c .before .before .before .before .before .before .before .before .before .before .before .before .before .args .size) (c .before .before .before .before .before .before .before .before .before .before .before .before .before .args .key .now) (c .before .before .before .before .before .before .before .before .before .before .before .before .before .args .challenge .now) (c .before .before .before .before .before .before .before .before .before .before .before .before .before .args .presented .now) (c .before .before .before .before .before .before .before .before .before .before .before .before .before .args .following .now) (c .before .before .before .before .before .before .before .before .before .before .before .before .before .pre .0) (c .before .before .before .before .before .before .before .before .before .before .before .before .before .pre .1 .1 .0) (c .before .before .before .before .before .before .before .before .before .before .before .before .before .pre .1 .1 .1 .0) (c .before .before .before .before .before .before .before .before .before .before .before .before .before .pre .1 .1 .1 .1) (c .before .before .before .before .before .before .ahead-of .ensures) (c .before .before .before .before .before .parted .ensures .0) (c .before .before .before .before .before .parted .ensures .1 .0) (c .before .before .before .before .before .parted .ensures .1 .1 .0) (c .before .before .before .before .before .parted .ensures .1 .1 .1) (c .before .before .before .before .before .before .before .before .goal-of .ensures) refl (c .before .before .if1 .taken) (c .if2 .taken)
+slice-aggregate-search-first : tie.Need-slice-aggregate-search-first
+slice-aggregate-search-first c = search needs
 
-slice-aggregate-search-keyed : tie.Need-slice-aggregate-search-keyed
-slice-aggregate-search-keyed c = search needs
-
-search-keyed-requires : tie.Need-search-keyed-requires
-search-keyed-requires c κs = let s = range-small (c .before .before .before .before .before .before .before .before .before .before .before .before .before .before .args .track) (c .before .before .before .before .before .before .before .before .before .before .before .before .before .before .args .clock .0) (c .before .before .before .before .before .before .before .before .before .before .before .before .before .before .args .size) (c .before .before .before .before .before .before .before .before .before .before .before .before .before .before .args .key .now) (c .before .before .before .before .before .before .before .before .before .before .before .before .before .before .args .challenge .now) (c .before .before .before .before .before .before .before .before .before .before .before .before .before .before .args .presented .now) (c .before .before .before .before .before .before .before .before .before .before .before .before .before .before .args .following .now) (c .before .before .before .before .before .before .before .before .before .before .before .before .before .before .pre .0) (c .before .before .before .before .before .before .before .before .before .before .before .before .before .before .pre .1 .1 .0) (c .before .before .before .before .before .before .before .before .before .before .before .before .before .before .pre .1 .1 .1 .0) (c .before .before .before .before .before .before .before .before .before .before .before .before .before .before .pre .1 .1 .1 .1) (c .before .before .before .before .before .before .before .ahead-of .ensures) (c .before .before .before .before .before .before .parted .ensures .0) (c .before .before .before .before .before .before .parted .ensures .1 .0) (c .before .before .before .before .before .before .parted .ensures .1 .1 .0) (c .before .before .before .before .before .before .parted .ensures .1 .1 .1) (c .before .before .before .before .before .before .before .before .before .goal-of .ensures) refl in (goal-modulus (c .before .before .before .before .before .before .before .before .before .before .before .before .before .before .args .track .rule .digits) (c .before .before .before .before .before .before .before .before .before .before .before .before .before .before .args .presented .now) (c .before .before .before .before .before .before .before .before .before .before .before .before .before .before .args .following .now) (c .before .before .before .before .before .before .before .before .before .goal-of .ensures), (key-long (c .before .before .before .before .before .before .before .before .before .before .before .before .before .before .args .track .rule .algorithm) (c .before .before .before .before .before .before .before .before .before .before .before .before .before .before .args .key .now) (Present 0) Absent (c .before .before .before .before .before .before .before .before .before .before .before .before .before .before .args .challenge .now) (c .before .before .before .before .before .before .before .before .before .before .before .before .before .before .args .track .rule .digits) (c .before .before .before .before .before .before .before .before .before .before .before .before .before .before .pre .1 .0), (refl, (ranges-ahead (c .before .before .before .before .before .before .before .before .before .before .before .before .before .before .args .track) (c .before .before .before .before .before .before .before .before .before .before .before .before .before .before .args .clock .0) (c .before .before .before .before .before .before .before .before .before .before .before .before .before .before .args .size) (c .before .before .before .before .before .before .before .before .before .before .before .before .before .before .args .key .now) (c .before .before .before .before .before .before .before .before .before .before .before .before .before .before .args .challenge .now) (c .before .before .before .before .before .before .before .before .before .before .before .before .before .before .args .presented .now) (c .before .before .before .before .before .before .before .before .before .before .before .before .before .before .args .following .now) (c .before .before .before .before .before .before .before .before .before .before .before .before .before .before .pre .0) (c .before .before .before .before .before .before .before .before .before .before .before .before .before .before .pre .1 .1 .0) (c .before .before .before .before .before .before .before .before .before .before .before .before .before .before .pre .1 .1 .1 .0) (c .before .before .before .before .before .before .before .before .before .before .before .before .before .before .pre .1 .1 .1 .1) (c .before .before .before .before .before .before .before .ahead-of .ensures) (c .before .before .before .before .before .before .parted .ensures .0) (c .before .before .before .before .before .before .parted .ensures .1 .0) (c .before .before .before .before .before .before .parted .ensures .1 .1 .0) (c .before .before .before .before .before .before .parted .ensures .1 .1 .1) (c .before .before .before .before .before .before .before .before .before .goal-of .ensures) refl .0, (s .0, s .1 .1 .1)))))
+search-first-requires : tie.Need-search-first-requires
+search-first-requires c κs = (goal-modulus (c .before .before .before .before .before .before .before .before .before .before .before .before .args .track .rule .digits) (c .before .before .before .before .before .before .before .before .before .before .before .before .args .presented .now) (c .before .before .before .before .before .before .before .before .before .before .before .before .args .following .now) (c .before .before .before .before .before .before .before .goal-of .ensures), (key-long (c .before .before .before .before .before .before .before .before .before .before .before .before .args .track .rule .algorithm) (c .before .before .before .before .before .before .before .before .before .before .before .before .args .key .now) (Present 0) Absent (c .before .before .before .before .before .before .before .before .before .before .before .before .args .challenge .now) (c .before .before .before .before .before .before .before .before .before .before .before .before .args .track .rule .digits) (c .before .before .before .before .before .before .before .before .before .before .before .before .pre .1 .0), (key-short (c .before .before .before .before .before .before .before .before .before .before .before .before .args .track .rule .algorithm) (c .before .before .before .before .before .before .before .before .before .before .before .before .args .key .now) (Present 0) Absent (c .before .before .before .before .before .before .before .before .before .before .before .before .args .challenge .now) (c .before .before .before .before .before .before .before .before .before .before .before .before .args .track .rule .digits) (c .before .before .before .before .before .before .before .before .before .before .before .before .pre .1 .0), (refl, (ranges-ahead (c .before .before .before .before .before .before .before .before .before .before .before .before .args .track) (c .before .before .before .before .before .before .before .before .before .before .before .before .args .clock .0) (c .before .before .before .before .before .before .before .before .before .before .before .before .args .size) (c .before .before .before .before .before .before .before .before .before .before .before .before .args .key .now) (c .before .before .before .before .before .before .before .before .before .before .before .before .args .challenge .now) (c .before .before .before .before .before .before .before .before .before .before .before .before .args .presented .now) (c .before .before .before .before .before .before .before .before .before .before .before .before .args .following .now) (c .before .before .before .before .before .before .before .before .before .before .before .before .pre .0) (c .before .before .before .before .before .before .before .before .before .before .before .before .pre .1 .1 .0) (c .before .before .before .before .before .before .before .before .before .before .before .before .pre .1 .1 .1) (c .before .before .before .before .before .ahead-of .ensures) (c .before .before .before .before .parted .ensures .0) (c .before .before .before .before .parted .ensures .1 .0) (c .before .before .before .before .parted .ensures .1 .1 .0) (c .before .before .before .before .parted .ensures .1 .1 .1) (c .before .before .before .before .before .before .before .goal-of .ensures) .0, range-small (c .before .before .before .before .before .before .before .before .before .before .before .before .args .track) (c .before .before .before .before .before .before .before .before .before .before .before .before .args .clock .0) (c .before .before .before .before .before .before .before .before .before .before .before .before .args .size) (c .before .before .before .before .before .before .before .before .before .before .before .before .args .key .now) (c .before .before .before .before .before .before .before .before .before .before .before .before .args .challenge .now) (c .before .before .before .before .before .before .before .before .before .before .before .before .args .presented .now) (c .before .before .before .before .before .before .before .before .before .before .before .before .args .following .now) (c .before .before .before .before .before .before .before .before .before .before .before .before .pre .0) (c .before .before .before .before .before .before .before .before .before .before .before .before .pre .1 .1 .0) (c .before .before .before .before .before .before .before .before .before .before .before .before .pre .1 .1 .1) (c .before .before .before .before .before .ahead-of .ensures) (c .before .before .before .before .parted .ensures .0) (c .before .before .before .before .parted .ensures .1 .0) (c .before .before .before .before .parted .ensures .1 .1 .0) (c .before .before .before .before .parted .ensures .1 .1 .1) (c .before .before .before .before .before .before .before .goal-of .ensures) .1 .1)))))
 
 used-or-wrong-requires : tie.Need-used-or-wrong-requires
 used-or-wrong-requires c κs = search needs
 
-returns-2 : tie.Need-returns-2
-returns-2 c = lanes-used (c .before .before .before .before .before .before .before .before .before .before .before .before .before .before .before .before .before .args .track) (c .before .before .before .before .before .before .before .before .before .before .before .before .before .before .before .before .before .args .clock .0) (c .before .before .before .before .before .before .before .before .before .before .before .before .before .before .before .before .before .args .size) (c .before .before .before .before .before .before .before .before .before .before .before .before .before .before .before .before .before .args .key .now) (c .before .before .before .before .before .before .before .before .before .before .before .before .before .before .before .before .before .args .challenge .now) (c .before .before .before .before .before .before .before .before .before .before .before .before .before .before .before .before .before .args .presented .now) (c .before .before .before .before .before .before .before .before .before .before .before .before .before .before .before .before .before .args .following .now) (c .before .before .before .before .before .before .before .before .before .before .before .before .before .before .before .before .before .pre .0) (c .before .before .before .before .before .before .before .before .before .before .before .before .before .before .before .before .before .pre .1 .1 .0) (c .before .before .before .before .before .before .before .before .before .before .before .before .before .before .before .before .before .pre .1 .1 .1 .0) (c .before .before .before .before .before .before .before .before .before .before .before .before .before .before .before .before .before .pre .1 .1 .1 .1) (c .before .before .before .before .before .before .before .before .before .before .ahead-of .ensures) (c .before .before .before .before .before .before .before .before .before .parted .ensures .0) (c .before .before .before .before .before .before .before .before .before .parted .ensures .1 .0) (c .before .before .before .before .before .before .before .before .before .parted .ensures .1 .1 .0) (c .before .before .before .before .before .before .before .before .before .parted .ensures .1 .1 .1) (c .before .before .before .before .before .before .before .before .before .before .before .before .goal-of .ensures) refl (c .before .before .before .before .before .before .if1 .taken) (c .before .before .search-keyed .ensures .0) (c .used-or-wrong .ensures)
+returns : tie.Need-returns
+returns c = lanes-used (c .before .before .before .before .before .before .before .before .before .before .before .before .before .before .before .args .track) (c .before .before .before .before .before .before .before .before .before .before .before .before .before .before .before .args .clock .0) (c .before .before .before .before .before .before .before .before .before .before .before .before .before .before .before .args .size) (c .before .before .before .before .before .before .before .before .before .before .before .before .before .before .before .args .key .now) (c .before .before .before .before .before .before .before .before .before .before .before .before .before .before .before .args .challenge .now) (c .before .before .before .before .before .before .before .before .before .before .before .before .before .before .before .args .presented .now) (c .before .before .before .before .before .before .before .before .before .before .before .before .before .before .before .args .following .now) (c .before .before .before .before .before .before .before .before .before .before .before .before .before .before .before .pre .0) (c .before .before .before .before .before .before .before .before .before .before .before .before .before .before .before .pre .1 .1 .0) (c .before .before .before .before .before .before .before .before .before .before .before .before .before .before .before .pre .1 .1 .1) (c .before .before .before .before .before .before .before .before .ahead-of .ensures) (c .before .before .before .before .before .before .before .parted .ensures .0) (c .before .before .before .before .before .before .before .parted .ensures .1 .0) (c .before .before .before .before .before .before .before .parted .ensures .1 .1 .0) (c .before .before .before .before .before .before .before .parted .ensures .1 .1 .1) (c .before .before .before .before .before .before .before .before .before .before .goal-of .ensures) (c .before .before .search-first .ensures .0) (c .used-or-wrong .ensures) (c .before .before .before .before .if1 .taken)
 
-slice-aggregate-search-keyed-2 : tie.Need-slice-aggregate-search-keyed-2
-slice-aggregate-search-keyed-2 c = search needs
+slice-aggregate-search-first-2 : tie.Need-slice-aggregate-search-first-2
+slice-aggregate-search-first-2 c = search needs
 
-search-keyed-requires-2 : tie.Need-search-keyed-requires-2
-search-keyed-requires-2 c κs = let s = range-small (c .before .before .before .before .before .before .before .before .before .before .before .before .args .track) (c .before .before .before .before .before .before .before .before .before .before .before .before .args .clock .0) (c .before .before .before .before .before .before .before .before .before .before .before .before .args .size) (c .before .before .before .before .before .before .before .before .before .before .before .before .args .key .now) (c .before .before .before .before .before .before .before .before .before .before .before .before .args .challenge .now) (c .before .before .before .before .before .before .before .before .before .before .before .before .args .presented .now) (c .before .before .before .before .before .before .before .before .before .before .before .before .args .following .now) (c .before .before .before .before .before .before .before .before .before .before .before .before .pre .0) (c .before .before .before .before .before .before .before .before .before .before .before .before .pre .1 .1 .0) (c .before .before .before .before .before .before .before .before .before .before .before .before .pre .1 .1 .1 .0) (c .before .before .before .before .before .before .before .before .before .before .before .before .pre .1 .1 .1 .1) (c .before .before .before .before .before .ahead-of .ensures) (c .before .before .before .before .parted .ensures .0) (c .before .before .before .before .parted .ensures .1 .0) (c .before .before .before .before .parted .ensures .1 .1 .0) (c .before .before .before .before .parted .ensures .1 .1 .1) (c .before .before .before .before .before .before .before .goal-of .ensures) refl in (goal-modulus (c .before .before .before .before .before .before .before .before .before .before .before .before .args .track .rule .digits) (c .before .before .before .before .before .before .before .before .before .before .before .before .args .presented .now) (c .before .before .before .before .before .before .before .before .before .before .before .before .args .following .now) (c .before .before .before .before .before .before .before .goal-of .ensures), (key-long (c .before .before .before .before .before .before .before .before .before .before .before .before .args .track .rule .algorithm) (c .before .before .before .before .before .before .before .before .before .before .before .before .args .key .now) (Present 0) Absent (c .before .before .before .before .before .before .before .before .before .before .before .before .args .challenge .now) (c .before .before .before .before .before .before .before .before .before .before .before .before .args .track .rule .digits) (c .before .before .before .before .before .before .before .before .before .before .before .before .pre .1 .0), (refl, (ranges-ahead (c .before .before .before .before .before .before .before .before .before .before .before .before .args .track) (c .before .before .before .before .before .before .before .before .before .before .before .before .args .clock .0) (c .before .before .before .before .before .before .before .before .before .before .before .before .args .size) (c .before .before .before .before .before .before .before .before .before .before .before .before .args .key .now) (c .before .before .before .before .before .before .before .before .before .before .before .before .args .challenge .now) (c .before .before .before .before .before .before .before .before .before .before .before .before .args .presented .now) (c .before .before .before .before .before .before .before .before .before .before .before .before .args .following .now) (c .before .before .before .before .before .before .before .before .before .before .before .before .pre .0) (c .before .before .before .before .before .before .before .before .before .before .before .before .pre .1 .1 .0) (c .before .before .before .before .before .before .before .before .before .before .before .before .pre .1 .1 .1 .0) (c .before .before .before .before .before .before .before .before .before .before .before .before .pre .1 .1 .1 .1) (c .before .before .before .before .before .ahead-of .ensures) (c .before .before .before .before .parted .ensures .0) (c .before .before .before .before .parted .ensures .1 .0) (c .before .before .before .before .parted .ensures .1 .1 .0) (c .before .before .before .before .parted .ensures .1 .1 .1) (c .before .before .before .before .before .before .before .goal-of .ensures) refl .1, (s .1 .0, s .1 .1 .0)))))
+search-first-requires-2 : tie.Need-search-first-requires-2
+search-first-requires-2 c κs = (goal-modulus (c .before .before .before .before .before .before .before .before .before .before .before .before .args .track .rule .digits) (c .before .before .before .before .before .before .before .before .before .before .before .before .args .presented .now) (c .before .before .before .before .before .before .before .before .before .before .before .before .args .following .now) (c .before .before .before .before .before .before .before .goal-of .ensures), (key-long (c .before .before .before .before .before .before .before .before .before .before .before .before .args .track .rule .algorithm) (c .before .before .before .before .before .before .before .before .before .before .before .before .args .key .now) (Present 0) Absent (c .before .before .before .before .before .before .before .before .before .before .before .before .args .challenge .now) (c .before .before .before .before .before .before .before .before .before .before .before .before .args .track .rule .digits) (c .before .before .before .before .before .before .before .before .before .before .before .before .pre .1 .0), (key-short (c .before .before .before .before .before .before .before .before .before .before .before .before .args .track .rule .algorithm) (c .before .before .before .before .before .before .before .before .before .before .before .before .args .key .now) (Present 0) Absent (c .before .before .before .before .before .before .before .before .before .before .before .before .args .challenge .now) (c .before .before .before .before .before .before .before .before .before .before .before .before .args .track .rule .digits) (c .before .before .before .before .before .before .before .before .before .before .before .before .pre .1 .0), (refl, (ranges-ahead (c .before .before .before .before .before .before .before .before .before .before .before .before .args .track) (c .before .before .before .before .before .before .before .before .before .before .before .before .args .clock .0) (c .before .before .before .before .before .before .before .before .before .before .before .before .args .size) (c .before .before .before .before .before .before .before .before .before .before .before .before .args .key .now) (c .before .before .before .before .before .before .before .before .before .before .before .before .args .challenge .now) (c .before .before .before .before .before .before .before .before .before .before .before .before .args .presented .now) (c .before .before .before .before .before .before .before .before .before .before .before .before .args .following .now) (c .before .before .before .before .before .before .before .before .before .before .before .before .pre .0) (c .before .before .before .before .before .before .before .before .before .before .before .before .pre .1 .1 .0) (c .before .before .before .before .before .before .before .before .before .before .before .before .pre .1 .1 .1) (c .before .before .before .before .before .ahead-of .ensures) (c .before .before .before .before .parted .ensures .0) (c .before .before .before .before .parted .ensures .1 .0) (c .before .before .before .before .parted .ensures .1 .1 .0) (c .before .before .before .before .parted .ensures .1 .1 .1) (c .before .before .before .before .before .before .before .goal-of .ensures) .1, range-small (c .before .before .before .before .before .before .before .before .before .before .before .before .args .track) (c .before .before .before .before .before .before .before .before .before .before .before .before .args .clock .0) (c .before .before .before .before .before .before .before .before .before .before .before .before .args .size) (c .before .before .before .before .before .before .before .before .before .before .before .before .args .key .now) (c .before .before .before .before .before .before .before .before .before .before .before .before .args .challenge .now) (c .before .before .before .before .before .before .before .before .before .before .before .before .args .presented .now) (c .before .before .before .before .before .before .before .before .before .before .before .before .args .following .now) (c .before .before .before .before .before .before .before .before .before .before .before .before .pre .0) (c .before .before .before .before .before .before .before .before .before .before .before .before .pre .1 .1 .0) (c .before .before .before .before .before .before .before .before .before .before .before .before .pre .1 .1 .1) (c .before .before .before .before .before .ahead-of .ensures) (c .before .before .before .before .parted .ensures .0) (c .before .before .before .before .parted .ensures .1 .0) (c .before .before .before .before .parted .ensures .1 .1 .0) (c .before .before .before .before .parted .ensures .1 .1 .1) (c .before .before .before .before .before .before .before .goal-of .ensures) .1 .0)))))
 
 enum-known-a : tie.Need-enum-known-a
 enum-known-a c = search needs
@@ -50,8 +45,8 @@ enum-known-a c = search needs
 accept-requires : tie.Need-accept-requires
 accept-requires c κs = c .before .before .before .before .before .before .before .before .before .before .before .before .before .before .before .before .before .pre .0
 
-returns-3 : tie.Need-returns-3
-returns-3 c = lanes-accepts (c .before .before .before .before .before .before .before .before .before .before .before .before .before .before .before .before .before .before .args .track) (c .before .before .before .before .before .before .before .before .before .before .before .before .before .before .before .before .before .before .args .clock .0) (c .before .before .before .before .before .before .before .before .before .before .before .before .before .before .before .before .before .before .args .size) (c .before .before .before .before .before .before .before .before .before .before .before .before .before .before .before .before .before .before .args .key .now) (c .before .before .before .before .before .before .before .before .before .before .before .before .before .before .before .before .before .before .args .challenge .now) (c .before .before .before .before .before .before .before .before .before .before .before .before .before .before .before .before .before .before .args .presented .now) (c .before .before .before .before .before .before .before .before .before .before .before .before .before .before .before .before .before .before .args .following .now) (c .before .before .before .before .before .before .before .before .before .before .before .before .before .before .before .before .before .before .pre .0) (c .before .before .before .before .before .before .before .before .before .before .before .before .before .before .before .before .before .before .pre .1 .1 .0) (c .before .before .before .before .before .before .before .before .before .before .before .before .before .before .before .before .before .before .pre .1 .1 .1 .0) (c .before .before .before .before .before .before .before .before .before .before .before .before .before .before .before .before .before .before .pre .1 .1 .1 .1) (c .before .before .before .before .before .before .before .before .before .before .before .ahead-of .ensures) (c .before .before .before .before .before .before .before .before .before .before .parted .ensures .0) (c .before .before .before .before .before .before .before .before .before .before .parted .ensures .1 .0) (c .before .before .before .before .before .before .before .before .before .before .parted .ensures .1 .1 .0) (c .before .before .before .before .before .before .before .before .before .before .parted .ensures .1 .1 .1) (c .before .before .before .before .before .before .before .before .before .before .before .before .before .goal-of .ensures) refl (c .before .before .before .before .before .search-keyed2 .ensures .0) (c .before .before .a .given .1) (c .accept .ensures)
+returns-2 : tie.Need-returns-2
+returns-2 c = lanes-accepts (c .before .before .before .before .before .before .before .before .before .before .before .before .before .before .before .before .before .before .args .track) (c .before .before .before .before .before .before .before .before .before .before .before .before .before .before .before .before .before .before .args .clock .0) (c .before .before .before .before .before .before .before .before .before .before .before .before .before .before .before .before .before .before .args .size) (c .before .before .before .before .before .before .before .before .before .before .before .before .before .before .before .before .before .before .args .key .now) (c .before .before .before .before .before .before .before .before .before .before .before .before .before .before .before .before .before .before .args .challenge .now) (c .before .before .before .before .before .before .before .before .before .before .before .before .before .before .before .before .before .before .args .presented .now) (c .before .before .before .before .before .before .before .before .before .before .before .before .before .before .before .before .before .before .args .following .now) (c .before .before .before .before .before .before .before .before .before .before .before .before .before .before .before .before .before .before .pre .0) (c .before .before .before .before .before .before .before .before .before .before .before .before .before .before .before .before .before .before .pre .1 .1 .0) (c .before .before .before .before .before .before .before .before .before .before .before .before .before .before .before .before .before .before .pre .1 .1 .1) (c .before .before .before .before .before .before .before .before .before .before .before .ahead-of .ensures) (c .before .before .before .before .before .before .before .before .before .before .parted .ensures .0) (c .before .before .before .before .before .before .before .before .before .before .parted .ensures .1 .0) (c .before .before .before .before .before .before .before .before .before .before .parted .ensures .1 .1 .0) (c .before .before .before .before .before .before .before .before .before .before .parted .ensures .1 .1 .1) (c .before .before .before .before .before .before .before .before .before .before .before .before .before .goal-of .ensures) (c .before .before .before .before .before .search-first2 .ensures .0) (c .before .before .a .given .1) (c .accept .ensures)
 
 enum-told : tie.Need-enum-told
 enum-told c = search needs
@@ -60,13 +55,13 @@ slice-aggregate-search-again : tie.Need-slice-aggregate-search-again
 slice-aggregate-search-again c = search needs
 
 search-again-requires : tie.Need-search-again-requires
-search-again-requires c κs = let s = range-small (c .before .before .before .before .before .before .before .before .before .before .before .before .before .before .before .before .before .args .track) (c .before .before .before .before .before .before .before .before .before .before .before .before .before .before .before .before .before .args .clock .0) (c .before .before .before .before .before .before .before .before .before .before .before .before .before .before .before .before .before .args .size) (c .before .before .before .before .before .before .before .before .before .before .before .before .before .before .before .before .before .args .key .now) (c .before .before .before .before .before .before .before .before .before .before .before .before .before .before .before .before .before .args .challenge .now) (c .before .before .before .before .before .before .before .before .before .before .before .before .before .before .before .before .before .args .presented .now) (c .before .before .before .before .before .before .before .before .before .before .before .before .before .before .before .before .before .args .following .now) (c .before .before .before .before .before .before .before .before .before .before .before .before .before .before .before .before .before .pre .0) (c .before .before .before .before .before .before .before .before .before .before .before .before .before .before .before .before .before .pre .1 .1 .0) (c .before .before .before .before .before .before .before .before .before .before .before .before .before .before .before .before .before .pre .1 .1 .1 .0) (c .before .before .before .before .before .before .before .before .before .before .before .before .before .before .before .before .before .pre .1 .1 .1 .1) (c .before .before .before .before .before .before .before .before .before .before .ahead-of .ensures) (c .before .before .before .before .before .before .before .before .before .parted .ensures .0) (c .before .before .before .before .before .before .before .before .before .parted .ensures .1 .0) (c .before .before .before .before .before .before .before .before .before .parted .ensures .1 .1 .0) (c .before .before .before .before .before .before .before .before .before .parted .ensures .1 .1 .1) (c .before .before .before .before .before .before .before .before .before .before .before .before .goal-of .ensures) refl in (goal-modulus (c .before .before .before .before .before .before .before .before .before .before .before .before .before .before .before .before .before .args .track .rule .digits) (c .before .before .before .before .before .before .before .before .before .before .before .before .before .before .before .before .before .args .presented .now) (c .before .before .before .before .before .before .before .before .before .before .before .before .before .before .before .before .before .args .following .now) (c .before .before .before .before .before .before .before .before .before .before .before .before .goal-of .ensures), (ap length (c .before .before .before .before .search-keyed2 .ensures .1) ∙ length-prepared 4 (c .before .before .before .before .before .before .before .before .before .before .before .before .before .before .before .before .before .args .key .now), (ranges-ahead (c .before .before .before .before .before .before .before .before .before .before .before .before .before .before .before .before .before .args .track) (c .before .before .before .before .before .before .before .before .before .before .before .before .before .before .before .before .before .args .clock .0) (c .before .before .before .before .before .before .before .before .before .before .before .before .before .before .before .before .before .args .size) (c .before .before .before .before .before .before .before .before .before .before .before .before .before .before .before .before .before .args .key .now) (c .before .before .before .before .before .before .before .before .before .before .before .before .before .before .before .before .before .args .challenge .now) (c .before .before .before .before .before .before .before .before .before .before .before .before .before .before .before .before .before .args .presented .now) (c .before .before .before .before .before .before .before .before .before .before .before .before .before .before .before .before .before .args .following .now) (c .before .before .before .before .before .before .before .before .before .before .before .before .before .before .before .before .before .pre .0) (c .before .before .before .before .before .before .before .before .before .before .before .before .before .before .before .before .before .pre .1 .1 .0) (c .before .before .before .before .before .before .before .before .before .before .before .before .before .before .before .before .before .pre .1 .1 .1 .0) (c .before .before .before .before .before .before .before .before .before .before .before .before .before .before .before .before .before .pre .1 .1 .1 .1) (c .before .before .before .before .before .before .before .before .before .before .ahead-of .ensures) (c .before .before .before .before .before .before .before .before .before .parted .ensures .0) (c .before .before .before .before .before .before .before .before .before .parted .ensures .1 .0) (c .before .before .before .before .before .before .before .before .before .parted .ensures .1 .1 .0) (c .before .before .before .before .before .before .before .before .before .parted .ensures .1 .1 .1) (c .before .before .before .before .before .before .before .before .before .before .before .before .goal-of .ensures) refl .0, (s .0, s .1 .1 .1))))
+search-again-requires c κs = (goal-modulus (c .before .before .before .before .before .before .before .before .before .before .before .before .before .before .before .before .before .args .track .rule .digits) (c .before .before .before .before .before .before .before .before .before .before .before .before .before .before .before .before .before .args .presented .now) (c .before .before .before .before .before .before .before .before .before .before .before .before .before .before .before .before .before .args .following .now) (c .before .before .before .before .before .before .before .before .before .before .before .before .goal-of .ensures), (key-short (c .before .before .before .before .before .before .before .before .before .before .before .before .before .before .before .before .before .args .track .rule .algorithm) (c .before .before .before .before .before .before .before .before .before .before .before .before .before .before .before .before .before .args .key .now) (Present 0) Absent (c .before .before .before .before .before .before .before .before .before .before .before .before .before .before .before .before .before .args .challenge .now) (c .before .before .before .before .before .before .before .before .before .before .before .before .before .before .before .before .before .args .track .rule .digits) (c .before .before .before .before .before .before .before .before .before .before .before .before .before .before .before .before .before .pre .1 .0), (c .before .before .before .before .search-first2 .ensures .1 (c .before .before .before .before .before .before .if1 .left), (ranges-ahead (c .before .before .before .before .before .before .before .before .before .before .before .before .before .before .before .before .before .args .track) (c .before .before .before .before .before .before .before .before .before .before .before .before .before .before .before .before .before .args .clock .0) (c .before .before .before .before .before .before .before .before .before .before .before .before .before .before .before .before .before .args .size) (c .before .before .before .before .before .before .before .before .before .before .before .before .before .before .before .before .before .args .key .now) (c .before .before .before .before .before .before .before .before .before .before .before .before .before .before .before .before .before .args .challenge .now) (c .before .before .before .before .before .before .before .before .before .before .before .before .before .before .before .before .before .args .presented .now) (c .before .before .before .before .before .before .before .before .before .before .before .before .before .before .before .before .before .args .following .now) (c .before .before .before .before .before .before .before .before .before .before .before .before .before .before .before .before .before .pre .0) (c .before .before .before .before .before .before .before .before .before .before .before .before .before .before .before .before .before .pre .1 .1 .0) (c .before .before .before .before .before .before .before .before .before .before .before .before .before .before .before .before .before .pre .1 .1 .1) (c .before .before .before .before .before .before .before .before .before .before .ahead-of .ensures) (c .before .before .before .before .before .before .before .before .before .parted .ensures .0) (c .before .before .before .before .before .before .before .before .before .parted .ensures .1 .0) (c .before .before .before .before .before .before .before .before .before .parted .ensures .1 .1 .0) (c .before .before .before .before .before .before .before .before .before .parted .ensures .1 .1 .1) (c .before .before .before .before .before .before .before .before .before .before .before .before .goal-of .ensures) .0, range-small (c .before .before .before .before .before .before .before .before .before .before .before .before .before .before .before .before .before .args .track) (c .before .before .before .before .before .before .before .before .before .before .before .before .before .before .before .before .before .args .clock .0) (c .before .before .before .before .before .before .before .before .before .before .before .before .before .before .before .before .before .args .size) (c .before .before .before .before .before .before .before .before .before .before .before .before .before .before .before .before .before .args .key .now) (c .before .before .before .before .before .before .before .before .before .before .before .before .before .before .before .before .before .args .challenge .now) (c .before .before .before .before .before .before .before .before .before .before .before .before .before .before .before .before .before .args .presented .now) (c .before .before .before .before .before .before .before .before .before .before .before .before .before .before .before .before .before .args .following .now) (c .before .before .before .before .before .before .before .before .before .before .before .before .before .before .before .before .before .pre .0) (c .before .before .before .before .before .before .before .before .before .before .before .before .before .before .before .before .before .pre .1 .1 .0) (c .before .before .before .before .before .before .before .before .before .before .before .before .before .before .before .before .before .pre .1 .1 .1) (c .before .before .before .before .before .before .before .before .before .before .ahead-of .ensures) (c .before .before .before .before .before .before .before .before .before .parted .ensures .0) (c .before .before .before .before .before .before .before .before .before .parted .ensures .1 .0) (c .before .before .before .before .before .before .before .before .before .parted .ensures .1 .1 .0) (c .before .before .before .before .before .before .before .before .before .parted .ensures .1 .1 .1) (c .before .before .before .before .before .before .before .before .before .before .before .before .goal-of .ensures) .1 .1))))
 
 used-or-wrong-requires-2 : tie.Need-used-or-wrong-requires-2
 used-or-wrong-requires-2 c κs = search needs
 
-returns-4 : tie.Need-returns-4
-returns-4 c = lanes-rest (c .before .before .before .before .before .before .before .before .before .before .before .before .before .before .before .before .before .before .before .args .track) (c .before .before .before .before .before .before .before .before .before .before .before .before .before .before .before .before .before .before .before .args .clock .0) (c .before .before .before .before .before .before .before .before .before .before .before .before .before .before .before .before .before .before .before .args .size) (c .before .before .before .before .before .before .before .before .before .before .before .before .before .before .before .before .before .before .before .args .key .now) (c .before .before .before .before .before .before .before .before .before .before .before .before .before .before .before .before .before .before .before .args .challenge .now) (c .before .before .before .before .before .before .before .before .before .before .before .before .before .before .before .before .before .before .before .args .presented .now) (c .before .before .before .before .before .before .before .before .before .before .before .before .before .before .before .before .before .before .before .args .following .now) (c .before .before .before .before .before .before .before .before .before .before .before .before .before .before .before .before .before .before .before .pre .0) (c .before .before .before .before .before .before .before .before .before .before .before .before .before .before .before .before .before .before .before .pre .1 .1 .0) (c .before .before .before .before .before .before .before .before .before .before .before .before .before .before .before .before .before .before .before .pre .1 .1 .1 .0) (c .before .before .before .before .before .before .before .before .before .before .before .before .before .before .before .before .before .before .before .pre .1 .1 .1 .1) (c .before .before .before .before .before .before .before .before .before .before .before .before .ahead-of .ensures) (c .before .before .before .before .before .before .before .before .before .before .before .parted .ensures .0) (c .before .before .before .before .before .before .before .before .before .before .before .parted .ensures .1 .0) (c .before .before .before .before .before .before .before .before .before .before .before .parted .ensures .1 .1 .0) (c .before .before .before .before .before .before .before .before .before .before .before .parted .ensures .1 .1 .1) (c .before .before .before .before .before .before .before .before .before .before .before .before .before .before .goal-of .ensures) refl (c .before .before .before .before .before .before .search-keyed2 .ensures .0) (c .before .before .before .enum-told .given .1) (c .before .before .before .before .before .before .search-keyed2 .ensures .1) (c .before .search-again .ensures) (c .used-or-wrong2 .ensures)
+returns-3 : tie.Need-returns-3
+returns-3 c = lanes-rest (c .before .before .before .before .before .before .before .before .before .before .before .before .before .before .before .before .before .before .before .args .track) (c .before .before .before .before .before .before .before .before .before .before .before .before .before .before .before .before .before .before .before .args .clock .0) (c .before .before .before .before .before .before .before .before .before .before .before .before .before .before .before .before .before .before .before .args .size) (c .before .before .before .before .before .before .before .before .before .before .before .before .before .before .before .before .before .before .before .args .key .now) (c .before .before .before .before .before .before .before .before .before .before .before .before .before .before .before .before .before .before .before .args .challenge .now) (c .before .before .before .before .before .before .before .before .before .before .before .before .before .before .before .before .before .before .before .args .presented .now) (c .before .before .before .before .before .before .before .before .before .before .before .before .before .before .before .before .before .before .before .args .following .now) (c .before .before .before .before .before .before .before .before .before .before .before .before .before .before .before .before .before .before .before .pre .0) (c .before .before .before .before .before .before .before .before .before .before .before .before .before .before .before .before .before .before .before .pre .1 .1 .0) (c .before .before .before .before .before .before .before .before .before .before .before .before .before .before .before .before .before .before .before .pre .1 .1 .1) (c .before .before .before .before .before .before .before .before .before .before .before .before .ahead-of .ensures) (c .before .before .before .before .before .before .before .before .before .before .before .parted .ensures .0) (c .before .before .before .before .before .before .before .before .before .before .before .parted .ensures .1 .0) (c .before .before .before .before .before .before .before .before .before .before .before .parted .ensures .1 .1 .0) (c .before .before .before .before .before .before .before .before .before .before .before .parted .ensures .1 .1 .1) (c .before .before .before .before .before .before .before .before .before .before .before .before .before .before .goal-of .ensures) (c .before .search-again .ensures) (c .used-or-wrong2 .ensures) (c .before .before .before .before .before .before .search-first2 .ensures .0) (c .before .before .before .enum-told .given .1)
 
 pub searched-in-lanes-spec : {M : Type 1} → statement M
 searched-in-lanes-spec =
@@ -76,18 +71,17 @@ searched-in-lanes-spec =
     ahead-of-requires
     parted-requires
     add-first
-    returns
-    slice-aggregate-search-keyed
-    search-keyed-requires
+    slice-aggregate-search-first
+    search-first-requires
     used-or-wrong-requires
-    returns-2
-    slice-aggregate-search-keyed-2
-    search-keyed-requires-2
+    returns
+    slice-aggregate-search-first-2
+    search-first-requires-2
     enum-known-a
     accept-requires
-    returns-3
+    returns-2
     enum-told
     slice-aggregate-search-again
     search-again-requires
     used-or-wrong-requires-2
-    returns-4)
+    returns-3)
