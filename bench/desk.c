@@ -108,10 +108,15 @@ static const struct contestant contestants[CALLS][CONTESTANTS] = {
     [CALL_QUERY] = {{"dl_query", ours_query, 0, 0}, {"C, rows as a struct", openssl_query, 0, 0}},
 };
 
+// Queries of fewer rows stand there for what a row more costs, and have no target.
 static struct race race_of(const struct line *line)
 {
-    struct race race = {.what = line->what, .rounds = ROUNDS, .calls = line->calls, .in_a_call = 1, .target = {0, 1.3, 1.0}};
+    struct race race = {.what = line->what, .rounds = ROUNDS, .calls = line->calls, .in_a_call = 1};
     memcpy(race.contestants, contestants[line->name], sizeof race.contestants);
+    if (line->name != CALL_QUERY || line->rows == DL_MOST_ROWS) {
+        race.target[1] = 1.3;
+        race.target[2] = 1.0;
+    }
     return race;
 }
 
