@@ -15,7 +15,8 @@ use Rattle.words.specs.Bytes.{beAt}
 use Rattle.words.specs.Words.{_⊕_, _⋘_}
 use Rattle.sm3.specs.declared.Registers.{Registers}
 use Rattle.sm3.specs.Sm3.{ff, gg, p1, roundWith, round, nextWord, expand, wordsAt, padded, iterated, iv, compressed, xored}
-use Rattle.sm3.specs.Sm3Laws.{constants, round-of, fourRounds, roundsFrom, grown, four-grown, grown-on, grown-expands, rounds-grown, rounds-on, rounds-from-zero, Reached, reached-none, reached-more, load-more, words-append, last-blocks-one, last-blocks-fill, length-padded, lastValue, wordTotal}
+use Rattle.sm3.specs.Sm3Laws.{constants, round-of, fourRounds, roundsFrom, grown, four-grown, grown-on, grown-expands, rounds-grown, rounds-on, rounds-from-zero, Reached, reached-none, reached-more, load-more, words-append, length-padded, lastValue, wordTotal}
+use Rattle.sm3.specs.PaddingLaws.{last-blocks-one, last-blocks-fill}
 
 -- ---- one message's words
 

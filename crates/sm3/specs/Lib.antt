@@ -1,5 +1,6 @@
 -- SM3 (GB/T 32905-2016): the definition, its laws, and the standard's examples computed.
 pub mod Sm3
+pub mod PaddingLaws
 pub mod Sm3Laws
 pub mod FourLaws
 pub mod Sm3Examples

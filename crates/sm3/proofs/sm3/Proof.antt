@@ -3,7 +3,8 @@ use Prim.Native.Nat.{_*_, _-_}
 use mathlib.Core.Path.{_∙_}
 use native.Mathlib.Omega.{arith}
 use lib.ListN.{length, replicate}
-use Rattle.sm3.specs.Sm3Laws.{last-blocks-fit, sm3-of, answer-hashed, answer-refused}
+use Rattle.sm3.specs.Sm3Laws.{sm3-of, answer-hashed, answer-refused}
+use Rattle.sm3.specs.PaddingLaws.{last-blocks-fit}
 use Rattle.sm3.proofs.sm3.Statement.{statement}
 use Rattle.sm3.proofs.sm3.Tie as tie
 

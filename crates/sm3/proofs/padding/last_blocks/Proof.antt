@@ -1,4 +1,4 @@
-use Rattle.sm3.specs.Sm3Laws.{last-blocks-one, last-blocks-two}
+use Rattle.sm3.specs.PaddingLaws.{last-blocks-one, last-blocks-two}
 use Rattle.sm3.proofs.padding.last_blocks.Statement.{statement}
 use Rattle.sm3.proofs.padding.last_blocks.Tie as tie
 

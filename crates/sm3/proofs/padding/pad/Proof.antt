@@ -3,7 +3,8 @@ use Prim.Native.Nat.{ℕ, _+_, _/_}
 use mathlib.Core.Path.{ap, _∙_}
 use native.Mathlib.Omega.{arith}
 use lib.ListN.{length-set}
-use Rattle.sm3.specs.Sm3Laws.{last-blocks-fill, padded-fits, padded-in-place}
+use Rattle.sm3.specs.Sm3Laws.{padded-fits, padded-in-place}
+use Rattle.sm3.specs.PaddingLaws.{last-blocks-fill}
 use Rattle.sm3.proofs.padding.pad.Statement.{statement}
 use Rattle.sm3.proofs.padding.pad.Tie as tie
 

@@ -2,7 +2,7 @@ use borrow.Author.Needs.{needs}
 use mathlib.Core.Path.{ap, _∙_}
 use native.Mathlib.Omega.{arith}
 use lib.ListN.{length, length-set, length-take, length-drop}
-use Rattle.sm3.specs.Sm3Laws.{last-blocks-fit, last-blocks-fill, end-of}
+use Rattle.sm3.specs.PaddingLaws.{last-blocks-fit, last-blocks-fill, end-of}
 use Rattle.sm3.proofs.padding.put_end.Statement.{statement}
 use Rattle.sm3.proofs.padding.put_end.Tie as tie
 
