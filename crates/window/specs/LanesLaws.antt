@@ -29,7 +29,7 @@ use Rattle.window.specs.declared.lanes.Goal.{Goal}
 use Rattle.window.specs.declared.lanes.Part.{Part}
 use Rattle.window.specs.Window.{timeToken}
 use Rattle.window.specs.Check.{orElse}
-use Rattle.window.specs.CheckLaws.{sweep, order}
+use Rattle.window.specs.CheckLaws.{sweep, order, clash}
 use Rattle.window.specs.PasswordAt.{passwordAt, hasPassword}
 use Rattle.window.specs.PasswordAtLaws.{matchesAt, countsRight}
 use Rattle.window.specs.SearchLaws.{foundOf, sweep-same}
@@ -226,9 +226,24 @@ module _ (goal : Goal) (cutOf : ℕ → ℕ) (ahead before n s end : ℕ) {p : P
       (sweep-part (laneTest goal cutOf) s (n - ahead) end
       ∙ left (sweep (laneTest goal cutOf) s (min (s + (n - ahead)) end - s)) (sweep (laneTest goal cutOf) (s + (n - ahead)) (end - (s + (n - ahead)))) part-found h))
 
+-- no cut before s is asked for, unless of a pair
+pub single-prior : (goal : Goal) (cutOf : ℕ → ℕ) (ahead before s : ℕ) (b : Bool) → goal .pair || b ≡ false → Prior goal cutOf ahead before s
+single-prior goal cutOf ahead before s b n t z = clash {b = true} refl (rw t at n)
+
 -- a search begins with no cut before it: of a pair, its first part's own cuts begin there
 pub ahead-prior : (goal : Goal) (cutOf : ℕ → ℕ) (before s : ℕ) {ahead : ℕ} → ahead ≡ aheadBy goal → Prior goal cutOf ahead before s
 ahead-prior goal cutOf before s e t z = let o : aheadBy goal ≡ 1 = rw t in absurd (omega (arith, e, o, z))
+
+-- the first step is searched by itself, then the others
+module _ (test : ℕ → Bool) (s end : ℕ) {f : Found} (h : s < end) (ef : f ≡ foundOf (sweep test s (s + 1 - s))) where
+  first-part : f ≡ foundOf (sweep test s (min (s + 1) end - s))
+  first-part = let e : min (s + 1) end - s ≡ s + 1 - s = omega arith in rw e ef
+
+  pub alone-hit : {a : Step} → f ≡ At a → At a ≡ foundOf (sweep test s (end - s))
+  alone-hit {a} i = rw (sweep-part test s 1 end) (told (sweep test s (min (s + 1) end - s)) (sweep test (s + 1) (end - (s + 1))) first-part a i)
+
+  pub alone-miss : f ≡ Nowhere → foundOf (sweep test (s + 1) (end - (s + 1))) ≡ foundOf (sweep test s (end - s))
+  alone-miss i = sym (ap foundOf (sweep-part test s 1 end ∙ left (sweep test s (min (s + 1) end - s)) (sweep test (s + 1) (end - (s + 1))) first-part i))
 
 -- a list of cuts gives its part
 pub part-is : (goal : Goal) (ahead before : ℕ) (cuts : List ℕ) (s end : ℕ) {prior last : ℕ} {f : Found} → prior ≡ priorOf ahead before (getD cuts 0 0)

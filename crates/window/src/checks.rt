@@ -133,6 +133,7 @@ fn searched(
 }
 
 // The same without a challenge, several steps at once. SM4's first make the round keys, which serve all later ones.
+// Where the fresh steps begin with the first unused one, that is the likeliest.
 fn searched_in_lanes(
     track: Track,
     clock: Seconds,
@@ -155,9 +156,18 @@ fn searched_in_lanes(
     let first = ranges.first + ahead;
     let mut keys = [0u32; 32];
     if ranges.end <= ranges.fresh {
-        return used_or_wrong(search_first(goal, rule, key, first, ranges.used, &mut keys));
+        return used_or_wrong(search_first(goal, rule, key, false, first, ranges.used, &mut keys));
     }
-    if let Found::At(a) = search_first(goal, rule, key, ranges.fresh, ranges.end, &mut keys) {
+    let is_next = ranges.fresh == ranges.used;
+    if let Found::At(a) = search_first(
+        goal,
+        rule,
+        key,
+        is_next,
+        ranges.fresh,
+        ranges.end,
+        &mut keys,
+    ) {
         return accept(track, clock, a.0);
     }
     used_or_wrong(search_again(goal, rule, key, &keys, first, ranges.used))

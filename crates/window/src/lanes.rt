@@ -201,11 +201,39 @@ fn search_on(
     }
 }
 
+// The search by SM3. The likeliest step goes alone, which costs half of four side by side.
+fn search_hashed(
+    goal: Goal,
+    rule: Rule,
+    key: &[u8],
+    keys: &[u32],
+    is_likely: bool,
+    first: u64,
+    end: u64,
+) -> Found
+    requires { ⌜ 0 < goal .modulus ⌝ }
+    requires { ⌜ length (now key) ≤ 32 ⌝ }
+    requires { ⌜ Keyed rule (now key) (now keys) ⌝ }
+    requires { ⌜ aheadBy goal ≤ first ⌝ }
+    requires { ⌜ first < end ⌝ }
+    requires { ⌜ end ≤ 2 ^ 62 ⌝ }
+    ensures { λ r. ⌜ r ≡ foundOf (sweep (laneTest goal (cutAt rule (now (key .entry)))) first (end - first)) ⌝ }
+{
+    if goal.pair | !is_likely {
+        return search_on(goal, rule, key, keys, ahead_by(goal), 0, first, end);
+    }
+    if let Found::At(a) = search_on(goal, rule, key, keys, 0, 0, first, first + 1) {
+        return Found::At(a);
+    }
+    search_on(goal, rule, key, keys, 0, 0, first + 1, end)
+}
+
 // The smallest step from first up to, not including, end that hits. SM4's round keys are left in keys, if there is a step.
 pub(crate) fn search_first(
     goal: Goal,
     rule: Rule,
     key: &[u8],
+    is_likely: bool,
     first: u64,
     end: u64,
     keys: &mut [u32],
@@ -222,10 +250,10 @@ pub(crate) fn search_first(
     if end <= first {
         return Found::Nowhere;
     }
-    let ahead = ahead_by(goal);
     if rule.algorithm == SM3 {
-        return search_on(goal, rule, key, keys, ahead, 0, first, end);
+        return search_hashed(goal, rule, key, keys, is_likely, first, end);
     }
+    let ahead = ahead_by(goal);
     let timed = rule.kind == TIME_TOKEN;
     let cuts = first_cuts(key, timed, first - ahead, keys);
     let part = part_of(goal, ahead, 0, &cuts, first, end);

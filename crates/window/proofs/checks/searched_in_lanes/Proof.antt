@@ -37,16 +37,16 @@ slice-aggregate-search-first-2 : tie.Need-slice-aggregate-search-first-2
 slice-aggregate-search-first-2 c = search needs
 
 search-first-requires-2 : tie.Need-search-first-requires-2
-search-first-requires-2 c κs = (goal-modulus (c .before .before .before .before .before .before .before .before .before .before .before .before .args .track .rule .digits) (c .before .before .before .before .before .before .before .before .before .before .before .before .args .presented .now) (c .before .before .before .before .before .before .before .before .before .before .before .before .args .following .now) (c .before .before .before .before .before .before .before .goal-of .ensures), (key-long (c .before .before .before .before .before .before .before .before .before .before .before .before .args .track .rule .algorithm) (c .before .before .before .before .before .before .before .before .before .before .before .before .args .key .now) (Present 0) Absent (c .before .before .before .before .before .before .before .before .before .before .before .before .args .challenge .now) (c .before .before .before .before .before .before .before .before .before .before .before .before .args .track .rule .digits) (c .before .before .before .before .before .before .before .before .before .before .before .before .pre .1 .0), (key-short (c .before .before .before .before .before .before .before .before .before .before .before .before .args .track .rule .algorithm) (c .before .before .before .before .before .before .before .before .before .before .before .before .args .key .now) (Present 0) Absent (c .before .before .before .before .before .before .before .before .before .before .before .before .args .challenge .now) (c .before .before .before .before .before .before .before .before .before .before .before .before .args .track .rule .digits) (c .before .before .before .before .before .before .before .before .before .before .before .before .pre .1 .0), (refl, (ranges-ahead (c .before .before .before .before .before .before .before .before .before .before .before .before .args .track) (c .before .before .before .before .before .before .before .before .before .before .before .before .args .clock .0) (c .before .before .before .before .before .before .before .before .before .before .before .before .args .size) (c .before .before .before .before .before .before .before .before .before .before .before .before .args .key .now) (c .before .before .before .before .before .before .before .before .before .before .before .before .args .challenge .now) (c .before .before .before .before .before .before .before .before .before .before .before .before .args .presented .now) (c .before .before .before .before .before .before .before .before .before .before .before .before .args .following .now) (c .before .before .before .before .before .before .before .before .before .before .before .before .pre .0) (c .before .before .before .before .before .before .before .before .before .before .before .before .pre .1 .1 .0) (c .before .before .before .before .before .before .before .before .before .before .before .before .pre .1 .1 .1) (c .before .before .before .before .before .ahead-of .ensures) (c .before .before .before .before .parted .ensures .0) (c .before .before .before .before .parted .ensures .1 .0) (c .before .before .before .before .parted .ensures .1 .1 .0) (c .before .before .before .before .parted .ensures .1 .1 .1) (c .before .before .before .before .before .before .before .goal-of .ensures) .1, range-small (c .before .before .before .before .before .before .before .before .before .before .before .before .args .track) (c .before .before .before .before .before .before .before .before .before .before .before .before .args .clock .0) (c .before .before .before .before .before .before .before .before .before .before .before .before .args .size) (c .before .before .before .before .before .before .before .before .before .before .before .before .args .key .now) (c .before .before .before .before .before .before .before .before .before .before .before .before .args .challenge .now) (c .before .before .before .before .before .before .before .before .before .before .before .before .args .presented .now) (c .before .before .before .before .before .before .before .before .before .before .before .before .args .following .now) (c .before .before .before .before .before .before .before .before .before .before .before .before .pre .0) (c .before .before .before .before .before .before .before .before .before .before .before .before .pre .1 .1 .0) (c .before .before .before .before .before .before .before .before .before .before .before .before .pre .1 .1 .1) (c .before .before .before .before .before .ahead-of .ensures) (c .before .before .before .before .parted .ensures .0) (c .before .before .before .before .parted .ensures .1 .0) (c .before .before .before .before .parted .ensures .1 .1 .0) (c .before .before .before .before .parted .ensures .1 .1 .1) (c .before .before .before .before .before .before .before .goal-of .ensures) .1 .0)))))
+search-first-requires-2 c κs = (goal-modulus (c .before .before .before .before .before .before .before .before .before .before .before .before .before .args .track .rule .digits) (c .before .before .before .before .before .before .before .before .before .before .before .before .before .args .presented .now) (c .before .before .before .before .before .before .before .before .before .before .before .before .before .args .following .now) (c .before .before .before .before .before .before .before .before .goal-of .ensures), (key-long (c .before .before .before .before .before .before .before .before .before .before .before .before .before .args .track .rule .algorithm) (c .before .before .before .before .before .before .before .before .before .before .before .before .before .args .key .now) (Present 0) Absent (c .before .before .before .before .before .before .before .before .before .before .before .before .before .args .challenge .now) (c .before .before .before .before .before .before .before .before .before .before .before .before .before .args .track .rule .digits) (c .before .before .before .before .before .before .before .before .before .before .before .before .before .pre .1 .0), (key-short (c .before .before .before .before .before .before .before .before .before .before .before .before .before .args .track .rule .algorithm) (c .before .before .before .before .before .before .before .before .before .before .before .before .before .args .key .now) (Present 0) Absent (c .before .before .before .before .before .before .before .before .before .before .before .before .before .args .challenge .now) (c .before .before .before .before .before .before .before .before .before .before .before .before .before .args .track .rule .digits) (c .before .before .before .before .before .before .before .before .before .before .before .before .before .pre .1 .0), (refl, (ranges-ahead (c .before .before .before .before .before .before .before .before .before .before .before .before .before .args .track) (c .before .before .before .before .before .before .before .before .before .before .before .before .before .args .clock .0) (c .before .before .before .before .before .before .before .before .before .before .before .before .before .args .size) (c .before .before .before .before .before .before .before .before .before .before .before .before .before .args .key .now) (c .before .before .before .before .before .before .before .before .before .before .before .before .before .args .challenge .now) (c .before .before .before .before .before .before .before .before .before .before .before .before .before .args .presented .now) (c .before .before .before .before .before .before .before .before .before .before .before .before .before .args .following .now) (c .before .before .before .before .before .before .before .before .before .before .before .before .before .pre .0) (c .before .before .before .before .before .before .before .before .before .before .before .before .before .pre .1 .1 .0) (c .before .before .before .before .before .before .before .before .before .before .before .before .before .pre .1 .1 .1) (c .before .before .before .before .before .before .ahead-of .ensures) (c .before .before .before .before .before .parted .ensures .0) (c .before .before .before .before .before .parted .ensures .1 .0) (c .before .before .before .before .before .parted .ensures .1 .1 .0) (c .before .before .before .before .before .parted .ensures .1 .1 .1) (c .before .before .before .before .before .before .before .before .goal-of .ensures) .1, range-small (c .before .before .before .before .before .before .before .before .before .before .before .before .before .args .track) (c .before .before .before .before .before .before .before .before .before .before .before .before .before .args .clock .0) (c .before .before .before .before .before .before .before .before .before .before .before .before .before .args .size) (c .before .before .before .before .before .before .before .before .before .before .before .before .before .args .key .now) (c .before .before .before .before .before .before .before .before .before .before .before .before .before .args .challenge .now) (c .before .before .before .before .before .before .before .before .before .before .before .before .before .args .presented .now) (c .before .before .before .before .before .before .before .before .before .before .before .before .before .args .following .now) (c .before .before .before .before .before .before .before .before .before .before .before .before .before .pre .0) (c .before .before .before .before .before .before .before .before .before .before .before .before .before .pre .1 .1 .0) (c .before .before .before .before .before .before .before .before .before .before .before .before .before .pre .1 .1 .1) (c .before .before .before .before .before .before .ahead-of .ensures) (c .before .before .before .before .before .parted .ensures .0) (c .before .before .before .before .before .parted .ensures .1 .0) (c .before .before .before .before .before .parted .ensures .1 .1 .0) (c .before .before .before .before .before .parted .ensures .1 .1 .1) (c .before .before .before .before .before .before .before .before .goal-of .ensures) .1 .0)))))
 
 enum-known-a : tie.Need-enum-known-a
 enum-known-a c = search needs
 
 accept-requires : tie.Need-accept-requires
-accept-requires c κs = c .before .before .before .before .before .before .before .before .before .before .before .before .before .before .before .before .before .pre .0
+accept-requires c κs = c .before .before .before .before .before .before .before .before .before .before .before .before .before .before .before .before .before .before .pre .0
 
 returns-2 : tie.Need-returns-2
-returns-2 c = lanes-accepts (c .before .before .before .before .before .before .before .before .before .before .before .before .before .before .before .before .before .before .args .track) (c .before .before .before .before .before .before .before .before .before .before .before .before .before .before .before .before .before .before .args .clock .0) (c .before .before .before .before .before .before .before .before .before .before .before .before .before .before .before .before .before .before .args .size) (c .before .before .before .before .before .before .before .before .before .before .before .before .before .before .before .before .before .before .args .key .now) (c .before .before .before .before .before .before .before .before .before .before .before .before .before .before .before .before .before .before .args .challenge .now) (c .before .before .before .before .before .before .before .before .before .before .before .before .before .before .before .before .before .before .args .presented .now) (c .before .before .before .before .before .before .before .before .before .before .before .before .before .before .before .before .before .before .args .following .now) (c .before .before .before .before .before .before .before .before .before .before .before .before .before .before .before .before .before .before .pre .0) (c .before .before .before .before .before .before .before .before .before .before .before .before .before .before .before .before .before .before .pre .1 .1 .0) (c .before .before .before .before .before .before .before .before .before .before .before .before .before .before .before .before .before .before .pre .1 .1 .1) (c .before .before .before .before .before .before .before .before .before .before .before .ahead-of .ensures) (c .before .before .before .before .before .before .before .before .before .before .parted .ensures .0) (c .before .before .before .before .before .before .before .before .before .before .parted .ensures .1 .0) (c .before .before .before .before .before .before .before .before .before .before .parted .ensures .1 .1 .0) (c .before .before .before .before .before .before .before .before .before .before .parted .ensures .1 .1 .1) (c .before .before .before .before .before .before .before .before .before .before .before .before .before .goal-of .ensures) (c .before .before .before .before .before .search-first2 .ensures .0) (c .before .before .a .given .1) (c .accept .ensures)
+returns-2 c = lanes-accepts (c .before .before .before .before .before .before .before .before .before .before .before .before .before .before .before .before .before .before .before .args .track) (c .before .before .before .before .before .before .before .before .before .before .before .before .before .before .before .before .before .before .before .args .clock .0) (c .before .before .before .before .before .before .before .before .before .before .before .before .before .before .before .before .before .before .before .args .size) (c .before .before .before .before .before .before .before .before .before .before .before .before .before .before .before .before .before .before .before .args .key .now) (c .before .before .before .before .before .before .before .before .before .before .before .before .before .before .before .before .before .before .before .args .challenge .now) (c .before .before .before .before .before .before .before .before .before .before .before .before .before .before .before .before .before .before .before .args .presented .now) (c .before .before .before .before .before .before .before .before .before .before .before .before .before .before .before .before .before .before .before .args .following .now) (c .before .before .before .before .before .before .before .before .before .before .before .before .before .before .before .before .before .before .before .pre .0) (c .before .before .before .before .before .before .before .before .before .before .before .before .before .before .before .before .before .before .before .pre .1 .1 .0) (c .before .before .before .before .before .before .before .before .before .before .before .before .before .before .before .before .before .before .before .pre .1 .1 .1) (c .before .before .before .before .before .before .before .before .before .before .before .before .ahead-of .ensures) (c .before .before .before .before .before .before .before .before .before .before .before .parted .ensures .0) (c .before .before .before .before .before .before .before .before .before .before .before .parted .ensures .1 .0) (c .before .before .before .before .before .before .before .before .before .before .before .parted .ensures .1 .1 .0) (c .before .before .before .before .before .before .before .before .before .before .before .parted .ensures .1 .1 .1) (c .before .before .before .before .before .before .before .before .before .before .before .before .before .before .goal-of .ensures) (c .before .before .before .before .before .search-first2 .ensures .0) (c .before .before .a .given .1) (c .accept .ensures)
 
 enum-told : tie.Need-enum-told
 enum-told c = search needs
@@ -55,13 +55,13 @@ slice-aggregate-search-again : tie.Need-slice-aggregate-search-again
 slice-aggregate-search-again c = search needs
 
 search-again-requires : tie.Need-search-again-requires
-search-again-requires c κs = (goal-modulus (c .before .before .before .before .before .before .before .before .before .before .before .before .before .before .before .before .before .args .track .rule .digits) (c .before .before .before .before .before .before .before .before .before .before .before .before .before .before .before .before .before .args .presented .now) (c .before .before .before .before .before .before .before .before .before .before .before .before .before .before .before .before .before .args .following .now) (c .before .before .before .before .before .before .before .before .before .before .before .before .goal-of .ensures), (key-short (c .before .before .before .before .before .before .before .before .before .before .before .before .before .before .before .before .before .args .track .rule .algorithm) (c .before .before .before .before .before .before .before .before .before .before .before .before .before .before .before .before .before .args .key .now) (Present 0) Absent (c .before .before .before .before .before .before .before .before .before .before .before .before .before .before .before .before .before .args .challenge .now) (c .before .before .before .before .before .before .before .before .before .before .before .before .before .before .before .before .before .args .track .rule .digits) (c .before .before .before .before .before .before .before .before .before .before .before .before .before .before .before .before .before .pre .1 .0), (c .before .before .before .before .search-first2 .ensures .1 (c .before .before .before .before .before .before .if1 .left), (ranges-ahead (c .before .before .before .before .before .before .before .before .before .before .before .before .before .before .before .before .before .args .track) (c .before .before .before .before .before .before .before .before .before .before .before .before .before .before .before .before .before .args .clock .0) (c .before .before .before .before .before .before .before .before .before .before .before .before .before .before .before .before .before .args .size) (c .before .before .before .before .before .before .before .before .before .before .before .before .before .before .before .before .before .args .key .now) (c .before .before .before .before .before .before .before .before .before .before .before .before .before .before .before .before .before .args .challenge .now) (c .before .before .before .before .before .before .before .before .before .before .before .before .before .before .before .before .before .args .presented .now) (c .before .before .before .before .before .before .before .before .before .before .before .before .before .before .before .before .before .args .following .now) (c .before .before .before .before .before .before .before .before .before .before .before .before .before .before .before .before .before .pre .0) (c .before .before .before .before .before .before .before .before .before .before .before .before .before .before .before .before .before .pre .1 .1 .0) (c .before .before .before .before .before .before .before .before .before .before .before .before .before .before .before .before .before .pre .1 .1 .1) (c .before .before .before .before .before .before .before .before .before .before .ahead-of .ensures) (c .before .before .before .before .before .before .before .before .before .parted .ensures .0) (c .before .before .before .before .before .before .before .before .before .parted .ensures .1 .0) (c .before .before .before .before .before .before .before .before .before .parted .ensures .1 .1 .0) (c .before .before .before .before .before .before .before .before .before .parted .ensures .1 .1 .1) (c .before .before .before .before .before .before .before .before .before .before .before .before .goal-of .ensures) .0, range-small (c .before .before .before .before .before .before .before .before .before .before .before .before .before .before .before .before .before .args .track) (c .before .before .before .before .before .before .before .before .before .before .before .before .before .before .before .before .before .args .clock .0) (c .before .before .before .before .before .before .before .before .before .before .before .before .before .before .before .before .before .args .size) (c .before .before .before .before .before .before .before .before .before .before .before .before .before .before .before .before .before .args .key .now) (c .before .before .before .before .before .before .before .before .before .before .before .before .before .before .before .before .before .args .challenge .now) (c .before .before .before .before .before .before .before .before .before .before .before .before .before .before .before .before .before .args .presented .now) (c .before .before .before .before .before .before .before .before .before .before .before .before .before .before .before .before .before .args .following .now) (c .before .before .before .before .before .before .before .before .before .before .before .before .before .before .before .before .before .pre .0) (c .before .before .before .before .before .before .before .before .before .before .before .before .before .before .before .before .before .pre .1 .1 .0) (c .before .before .before .before .before .before .before .before .before .before .before .before .before .before .before .before .before .pre .1 .1 .1) (c .before .before .before .before .before .before .before .before .before .before .ahead-of .ensures) (c .before .before .before .before .before .before .before .before .before .parted .ensures .0) (c .before .before .before .before .before .before .before .before .before .parted .ensures .1 .0) (c .before .before .before .before .before .before .before .before .before .parted .ensures .1 .1 .0) (c .before .before .before .before .before .before .before .before .before .parted .ensures .1 .1 .1) (c .before .before .before .before .before .before .before .before .before .before .before .before .goal-of .ensures) .1 .1))))
+search-again-requires c κs = (goal-modulus (c .before .before .before .before .before .before .before .before .before .before .before .before .before .before .before .before .before .before .args .track .rule .digits) (c .before .before .before .before .before .before .before .before .before .before .before .before .before .before .before .before .before .before .args .presented .now) (c .before .before .before .before .before .before .before .before .before .before .before .before .before .before .before .before .before .before .args .following .now) (c .before .before .before .before .before .before .before .before .before .before .before .before .before .goal-of .ensures), (key-short (c .before .before .before .before .before .before .before .before .before .before .before .before .before .before .before .before .before .before .args .track .rule .algorithm) (c .before .before .before .before .before .before .before .before .before .before .before .before .before .before .before .before .before .before .args .key .now) (Present 0) Absent (c .before .before .before .before .before .before .before .before .before .before .before .before .before .before .before .before .before .before .args .challenge .now) (c .before .before .before .before .before .before .before .before .before .before .before .before .before .before .before .before .before .before .args .track .rule .digits) (c .before .before .before .before .before .before .before .before .before .before .before .before .before .before .before .before .before .before .pre .1 .0), (c .before .before .before .before .search-first2 .ensures .1 (c .before .before .before .before .before .before .before .if1 .left), (ranges-ahead (c .before .before .before .before .before .before .before .before .before .before .before .before .before .before .before .before .before .before .args .track) (c .before .before .before .before .before .before .before .before .before .before .before .before .before .before .before .before .before .before .args .clock .0) (c .before .before .before .before .before .before .before .before .before .before .before .before .before .before .before .before .before .before .args .size) (c .before .before .before .before .before .before .before .before .before .before .before .before .before .before .before .before .before .before .args .key .now) (c .before .before .before .before .before .before .before .before .before .before .before .before .before .before .before .before .before .before .args .challenge .now) (c .before .before .before .before .before .before .before .before .before .before .before .before .before .before .before .before .before .before .args .presented .now) (c .before .before .before .before .before .before .before .before .before .before .before .before .before .before .before .before .before .before .args .following .now) (c .before .before .before .before .before .before .before .before .before .before .before .before .before .before .before .before .before .before .pre .0) (c .before .before .before .before .before .before .before .before .before .before .before .before .before .before .before .before .before .before .pre .1 .1 .0) (c .before .before .before .before .before .before .before .before .before .before .before .before .before .before .before .before .before .before .pre .1 .1 .1) (c .before .before .before .before .before .before .before .before .before .before .before .ahead-of .ensures) (c .before .before .before .before .before .before .before .before .before .before .parted .ensures .0) (c .before .before .before .before .before .before .before .before .before .before .parted .ensures .1 .0) (c .before .before .before .before .before .before .before .before .before .before .parted .ensures .1 .1 .0) (c .before .before .before .before .before .before .before .before .before .before .parted .ensures .1 .1 .1) (c .before .before .before .before .before .before .before .before .before .before .before .before .before .goal-of .ensures) .0, range-small (c .before .before .before .before .before .before .before .before .before .before .before .before .before .before .before .before .before .before .args .track) (c .before .before .before .before .before .before .before .before .before .before .before .before .before .before .before .before .before .before .args .clock .0) (c .before .before .before .before .before .before .before .before .before .before .before .before .before .before .before .before .before .before .args .size) (c .before .before .before .before .before .before .before .before .before .before .before .before .before .before .before .before .before .before .args .key .now) (c .before .before .before .before .before .before .before .before .before .before .before .before .before .before .before .before .before .before .args .challenge .now) (c .before .before .before .before .before .before .before .before .before .before .before .before .before .before .before .before .before .before .args .presented .now) (c .before .before .before .before .before .before .before .before .before .before .before .before .before .before .before .before .before .before .args .following .now) (c .before .before .before .before .before .before .before .before .before .before .before .before .before .before .before .before .before .before .pre .0) (c .before .before .before .before .before .before .before .before .before .before .before .before .before .before .before .before .before .before .pre .1 .1 .0) (c .before .before .before .before .before .before .before .before .before .before .before .before .before .before .before .before .before .before .pre .1 .1 .1) (c .before .before .before .before .before .before .before .before .before .before .before .ahead-of .ensures) (c .before .before .before .before .before .before .before .before .before .before .parted .ensures .0) (c .before .before .before .before .before .before .before .before .before .before .parted .ensures .1 .0) (c .before .before .before .before .before .before .before .before .before .before .parted .ensures .1 .1 .0) (c .before .before .before .before .before .before .before .before .before .before .parted .ensures .1 .1 .1) (c .before .before .before .before .before .before .before .before .before .before .before .before .before .goal-of .ensures) .1 .1))))
 
 used-or-wrong-requires-2 : tie.Need-used-or-wrong-requires-2
 used-or-wrong-requires-2 c κs = search needs
 
 returns-3 : tie.Need-returns-3
-returns-3 c = lanes-rest (c .before .before .before .before .before .before .before .before .before .before .before .before .before .before .before .before .before .before .before .args .track) (c .before .before .before .before .before .before .before .before .before .before .before .before .before .before .before .before .before .before .before .args .clock .0) (c .before .before .before .before .before .before .before .before .before .before .before .before .before .before .before .before .before .before .before .args .size) (c .before .before .before .before .before .before .before .before .before .before .before .before .before .before .before .before .before .before .before .args .key .now) (c .before .before .before .before .before .before .before .before .before .before .before .before .before .before .before .before .before .before .before .args .challenge .now) (c .before .before .before .before .before .before .before .before .before .before .before .before .before .before .before .before .before .before .before .args .presented .now) (c .before .before .before .before .before .before .before .before .before .before .before .before .before .before .before .before .before .before .before .args .following .now) (c .before .before .before .before .before .before .before .before .before .before .before .before .before .before .before .before .before .before .before .pre .0) (c .before .before .before .before .before .before .before .before .before .before .before .before .before .before .before .before .before .before .before .pre .1 .1 .0) (c .before .before .before .before .before .before .before .before .before .before .before .before .before .before .before .before .before .before .before .pre .1 .1 .1) (c .before .before .before .before .before .before .before .before .before .before .before .before .ahead-of .ensures) (c .before .before .before .before .before .before .before .before .before .before .before .parted .ensures .0) (c .before .before .before .before .before .before .before .before .before .before .before .parted .ensures .1 .0) (c .before .before .before .before .before .before .before .before .before .before .before .parted .ensures .1 .1 .0) (c .before .before .before .before .before .before .before .before .before .before .before .parted .ensures .1 .1 .1) (c .before .before .before .before .before .before .before .before .before .before .before .before .before .before .goal-of .ensures) (c .before .search-again .ensures) (c .used-or-wrong2 .ensures) (c .before .before .before .before .before .before .search-first2 .ensures .0) (c .before .before .before .enum-told .given .1)
+returns-3 c = lanes-rest (c .before .before .before .before .before .before .before .before .before .before .before .before .before .before .before .before .before .before .before .before .args .track) (c .before .before .before .before .before .before .before .before .before .before .before .before .before .before .before .before .before .before .before .before .args .clock .0) (c .before .before .before .before .before .before .before .before .before .before .before .before .before .before .before .before .before .before .before .before .args .size) (c .before .before .before .before .before .before .before .before .before .before .before .before .before .before .before .before .before .before .before .before .args .key .now) (c .before .before .before .before .before .before .before .before .before .before .before .before .before .before .before .before .before .before .before .before .args .challenge .now) (c .before .before .before .before .before .before .before .before .before .before .before .before .before .before .before .before .before .before .before .before .args .presented .now) (c .before .before .before .before .before .before .before .before .before .before .before .before .before .before .before .before .before .before .before .before .args .following .now) (c .before .before .before .before .before .before .before .before .before .before .before .before .before .before .before .before .before .before .before .before .pre .0) (c .before .before .before .before .before .before .before .before .before .before .before .before .before .before .before .before .before .before .before .before .pre .1 .1 .0) (c .before .before .before .before .before .before .before .before .before .before .before .before .before .before .before .before .before .before .before .before .pre .1 .1 .1) (c .before .before .before .before .before .before .before .before .before .before .before .before .before .ahead-of .ensures) (c .before .before .before .before .before .before .before .before .before .before .before .before .parted .ensures .0) (c .before .before .before .before .before .before .before .before .before .before .before .before .parted .ensures .1 .0) (c .before .before .before .before .before .before .before .before .before .before .before .before .parted .ensures .1 .1 .0) (c .before .before .before .before .before .before .before .before .before .before .before .before .parted .ensures .1 .1 .1) (c .before .before .before .before .before .before .before .before .before .before .before .before .before .before .before .goal-of .ensures) (c .before .search-again .ensures) (c .used-or-wrong2 .ensures) (c .before .before .before .before .before .before .search-first2 .ensures .0) (c .before .before .before .enum-told .given .1)
 
 pub searched-in-lanes-spec : {M : Type 1} → statement M
 searched-in-lanes-spec =

@@ -2,8 +2,8 @@ use Rattle.window.specs.LanesLaws.{width-room, part-next, part-last, par
 use Rattle.window.specs.SearchLaws.{sweep-end, foundOf}
 use Rattle.window.specs.CheckLaws.{sweep}
 use Rattle.window.specs.Lanes.{cutAt, laneTest, Prior, width}
-use mathlib.Core.Path.{_≡_, refl, sym, ap, _∙_}
-use Prim.Native.Nat.{_+_, _-_, _≤_}
+use mathlib.Core.Path.{_≡_, refl, sym, _∙_}
+use Prim.Native.Nat.{_-_, _≤_}
 use native.Mathlib.Omega.{arith}
 use borrow.Author.Needs.{needs}
 use Rattle.window.proofs.lanes.search_on.Statement.{statement}
