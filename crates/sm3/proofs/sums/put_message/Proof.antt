@@ -1,6 +1,4 @@
-use mathlib.Core.Path.{_∙_}
 use native.Mathlib.Omega.{arith}
-use lib.ListN.{take, replicate}
 use Rattle.sm3.specs.FourLaws.{message-of}
 use borrow.Author.Needs.{needs}
 use Rattle.sm3.proofs.sums.put_message.Statement.{statement}
