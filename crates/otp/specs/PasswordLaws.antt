@@ -9,7 +9,7 @@ use native.Mathlib.Omega.{arith}
 use borrow.Author.Tests.{eq-eqb, ne-eqb, eqb-true, leb-true}
 use lib.Arith.{mod-mul}
 use lib.Dec.{eqb, leb}
-use lib.ListN.{length, getD, set, drop, length-append, length-set}
+use lib.ListN.{length, set, drop, length-append, length-set}
 use lib.Seq.{drop-cons, drop-set-lt, getD-set-same}
 use Rattle.words.specs.Lists.{allWithin}
 use Rattle.words.specs.Codes.{done, badArgument}

@@ -1,4 +1,3 @@
-use borrow.Author.Needs.{needs}
 use Rattle.otp.proofs.steps.count_at.Statement.{statement}
 use Rattle.otp.proofs.steps.count_at.Tie as tie
 
