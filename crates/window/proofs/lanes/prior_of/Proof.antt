@@ -1,5 +1,4 @@
 use borrow.Author.Tests.{eq-eqb, ne-eqb}
-use borrow.Author.Needs.{needs}
 use Rattle.window.proofs.lanes.prior_of.Statement.{statement}
 use Rattle.window.proofs.lanes.prior_of.Tie as tie
 
