@@ -14,6 +14,7 @@ use Rattle.words.specs.Bytes.{beAt, beBytes, putBe}
 use Rattle.words.specs.BytesLaws.{beAt-agree, length-beBytes, putBe-seam, beBytes-split}
 use Rattle.words.specs.Codes.{done, badArgument}
 use Rattle.words.specs.Words.{_⊕_, _⋘_}
+use Rattle.words.specs.WordsLaws.{rotated-pair, xor-assoc}
 use Rattle.words.specs.Tables.{entry-rule}
 use Rattle.sm3.specs.declared.Registers.{Registers}
 use Rattle.sm3.specs.declared.Hash.{Hash}
@@ -37,6 +38,12 @@ constants =
 pub constant-at : (j : ℕ) → j < 64 → getD constants j 0 ≡ constant j ⋘ (j % 32)
 unfolding _⋘_
 constant-at j h = eqb-true (getD constants j 0) (constant j ⋘ (j % 32)) (entry-rule (λ k x. eqb x (constant k ⋘ (k % 32))) constants refl j h)
+
+-- ---- the permutations P0 and P1
+
+-- both rotate twice, the second time by eight bits more: these can be rotated first
+pub permuted-by-eight : (x n : ℕ) → x < 2 ^ 32 → n ≤ 24 → x ⊕ ((x ⊕ (x ⋘ 8)) ⋘ n) ≡ x ⊕ (x ⋘ n) ⊕ (x ⋘ (8 + n))
+permuted-by-eight x n word within = ap (λ (y : ℕ). x ⊕ y) (rotated-pair x 8 n word (omega arith)) ∙ sym (xor-assoc x (x ⋘ n) (x ⋘ (8 + n)))
 
 -- ---- rounds
 

@@ -29,11 +29,11 @@ pub(crate) fn choice(x: u32, y: u32, z: u32) -> u32
     ((y ^ z) & x) ^ z
 }
 
-// The permutation P0.
+// The permutation P0, in the form that takes fewer copies of the word.
 fn p0(x: u32) -> u32
     ensures { λ r. ⌜ r ≡ p0 x ⌝ }
 {
-    x ^ rotate_left(x, 9) ^ rotate_left(x, 17)
+    x ^ rotate_left(x ^ rotate_left(x, 8), 9)
 }
 
 // The round, with what FF and GG gave, the constant t, W_j and W'_j.

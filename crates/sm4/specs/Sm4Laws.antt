@@ -1,4 +1,4 @@
--- Laws of SM4: its words stay below 2^32, steps compose, and the round keys are steps.
+-- Laws of SM4: its words stay below 2^32, L takes fewer operations, steps compose, and the round keys are steps.
 use Prim.Native.Nat.{ℕ, zero, suc, _+_, _*_, _/_, _%_, _^_, _≤_, _<_}
 use mathlib.Core.Path.{_≡_, refl, sym, ap, _∙_}
 use mathlib.Core.Bool.{Bool, true}
@@ -6,12 +6,12 @@ use mathlib.Core.List.{List}
 use native.Mathlib.Nat.{add-zero, zero-add, add-suc, suc-add, mod-lt, zero-lt-suc, not-suc-le-zero, le-of-suc-le-suc}
 use native.Mathlib.Omega.{arith}
 use borrow.Author.Tests.{eqb-true}
-use lib.Bits.{xor-lt}
+use lib.Bits.{xor-lt, xor-comm}
 use lib.Dec.{eqb}
 use lib.ListN.{length, getD, drop}
 use lib.Seq.{getD-drop}
 use Rattle.words.specs.Words.{_⊕_, _⋘_}
-use Rattle.words.specs.WordsLaws.{rotated-lt}
+use Rattle.words.specs.WordsLaws.{rotated-lt, rotated-whole, rotated-xor, rotations-add, rotated-pair, xor-assoc}
 use Rattle.words.specs.BytesLaws.{AreBytes, beAt-lt}
 use Rattle.words.specs.Tables.{every, entry-rule}
 use Rattle.sm4.specs.Sbox.{substitute}
@@ -92,6 +92,20 @@ ck-lt i = word-lt (at 0) (at 1) (at 2) (at 3)
   where
     at : (j : ℕ) → (4 * i + j) * 7 % 256 < 256
     at j = mod-lt ((4 * i + j) * 7) (zero-lt-suc 255)
+
+-- ---- L in fewer operations
+
+-- b and b ⋘ 8 are rotated by 24 together, and by 2 together with b ⋘ 16
+pub linear-by-eights : (b : ℕ) → b < 2 ^ 32 → ((b ⊕ (b ⋘ 8)) ⋘ 24) ⊕ ((b ⊕ (b ⋘ 8) ⊕ (b ⋘ 16)) ⋘ 2) ≡ linear b
+unfolding linear
+linear-by-eights b h =
+    let v = b ⊕ (b ⋘ 8) in
+    let twos = (b ⋘ 2) ⊕ (b ⋘ 10) ⊕ (b ⋘ 18) in
+    let low : v < 2 ^ 32 = xor-below h (turned b h 8 (omega arith)) in
+    let by-24 : v ⋘ 24 ≡ (b ⋘ 24) ⊕ b = rotated-pair b 8 24 h (omega arith) ∙ rw (rotated-whole b) in
+    let through : (v ⊕ (b ⋘ 16)) ⋘ 2 ≡ (v ⋘ 2) ⊕ (b ⋘ 16 ⋘ 2) = rotated-xor v (b ⋘ 16) 2 low (turned b h 16 (omega arith)) (omega arith) in
+    let by-2 : (v ⊕ (b ⋘ 16)) ⋘ 2 ≡ twos = through ∙ rw (rotated-pair b 8 2 h (omega arith), rotations-add b 16 2 h (omega arith)) in
+    rw (by-24, by-2, xor-assoc (b ⋘ 24) b twos, xor-comm (b ⋘ 24) (b ⊕ twos)) (simp xor-assoc)
 
 -- ---- the steps
 

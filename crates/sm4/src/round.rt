@@ -51,11 +51,12 @@ fn tau(table: &[u8], x: u32) -> u32
     (a * 16777216 + c * 256) + (b * 65536 + d)
 }
 
-// The linear transformation L (6.2 b)).
+// The linear transformation L (6.2 b)), in the form that takes one operation less and fewer copies of the word.
 fn linear(b: u32) -> u32
     ensures { λ r. ⌜ r ≡ linear b ⌝ }
 {
-    b ^ rotate_left(b, 2) ^ rotate_left(b, 10) ^ rotate_left(b, 18) ^ rotate_left(b, 24)
+    let v = b ^ rotate_left(b, 8);
+    rotate_left(v, 24) ^ rotate_left(v ^ rotate_left(b, 16), 2)
 }
 
 // The linear transformation L' of the key schedule (7.3 a)).

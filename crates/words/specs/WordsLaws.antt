@@ -2,12 +2,12 @@
 use Prim.Native.Nat.{ℕ, zero, suc, _+_, _*_, _-_, _/_, _%_, _^_, _≤_, _<_}
 use mathlib.Core.Path.{_≡_, refl, sym, ap, ap₂, _∙_, subst}
 use mathlib.Core.Logic.{_⊎_, inl, inr, ⊎-elim}
-use native.Mathlib.Nat.{mod-lt, mul-div-cancel, mul-mod-left, add-zero, zero-lt-suc, sub-add-cancel, div-add-mod', pow-suc}
+use native.Mathlib.Nat.{mod-lt, mul-div-cancel, mul-mod-left, add-zero, add-comm, zero-lt-suc, sub-add-cancel, div-add-mod', pow-suc}
 use native.Mathlib.Omega.{arith}
 use lib.Arith.{lt-one, digits-lt, digits-mod, mod-mul, bin-ind}
-use lib.Bits.{bitAnd, bitOr, bitXor, differ, and-shr, and-mod, or-shr, or-mod, xor-mod, or-shifted, xor-step, xor-shr, xor-self, xor-zero-r}
-use lib.Pow.{pow-pos, pow-add, shr-lt}
-use Rattle.words.specs.Words.{_⋘_}
+use lib.Bits.{bitAnd, bitOr, bitXor, differ, and-shr, and-mod, or-shr, or-mod, xor-mod, or-shifted, xor-step, xor-shr, xor-block, xor-self, xor-zero-r}
+use lib.Pow.{pow-pos, pow-add, shr-lt, shr-shr, split, high, low, mod-pow-add, field, mod-mod-pow}
+use Rattle.words.specs.Words.{_⊕_, _⋘_}
 
 -- the bits that a shift to the left keeps
 shl-keeps : (x n : ℕ) → n ≤ 32 → x * 2 ^ n % 2 ^ 32 ≡ x % 2 ^ (32 - n) * 2 ^ n
@@ -31,6 +31,61 @@ module _ (x n : ℕ) (word : x < 2 ^ 32) (within : n ≤ 32) where
       (subst (λ (m : ℕ). x % 2 ^ (32 - n) * 2 ^ n + x / 2 ^ (32 - n) < m)
       (sym (pow-add 2 (32 - n) n) ∙ ap (λ (m : ℕ). 2 ^ m) (sub-add-cancel within))
       (digits-lt (mod-lt x (pow-pos (32 - n))) shr-below))
+
+-- x of k + n bits rotated left by k: the n low bits go above the k high ones
+turned : ℕ → ℕ → ℕ → ℕ
+turned x k n = x % 2 ^ n * 2 ^ k + x / 2 ^ n
+
+rotated-is : (x n : ℕ) → n ≤ 32 → x ⋘ n ≡ turned x n (32 - n)
+unfolding _⋘_ turned
+rotated-is x n within = rw (shl-keeps x n within)
+
+-- a rotation by all 32 bits
+pub rotated-whole : (x : ℕ) → x ⋘ 32 ≡ x
+unfolding _⋘_
+rotated-whole x = omega arith
+
+-- a rotation goes through an exclusive or
+pub rotated-xor : (x y n : ℕ) → x < 2 ^ 32 → y < 2 ^ 32 → n ≤ 32 → (x ⊕ y) ⋘ n ≡ (x ⋘ n) ⊕ (y ⋘ n)
+unfolding turned
+rotated-xor x y n h k within =
+    let m = 32 - n in
+    rw (rotated-is (x ⊕ y) n within, rotated-is x n within, rotated-is y n within, xor-mod x y m, xor-shr x y m)
+    (sym (xor-block n (x % 2 ^ m) (y % 2 ^ m) (x / 2 ^ m) (y / 2 ^ m) (shr-below x n h within) (shr-below y n k within)))
+
+-- a rotation by a and then by b, with c bits to spare
+module _ (x a b c : ℕ) (fits : x < 2 ^ (a + (b + c))) where
+  turned-high : turned x a (b + c) / 2 ^ a ≡ x % 2 ^ (b + c)
+  unfolding turned
+  turned-high = high (x % 2 ^ (b + c)) a (shr-lt a (b + c) fits)
+
+  turned-low : turned x a (b + c) % 2 ^ a ≡ x / 2 ^ (b + c)
+  unfolding turned
+  turned-low = low (x % 2 ^ (b + c)) a (shr-lt a (b + c) fits)
+
+  turned-twice : turned (turned x a (b + c)) b (c + a) ≡ turned x (a + b) c
+  unfolding turned
+  turned-twice =
+      let y = turned x a (b + c) in
+      let top : y / 2 ^ (c + a) ≡ x / 2 ^ c % 2 ^ b = rw (add-comm c a, ← shr-shr y a c, turned-high) (field x b c) in
+      let rest : y % 2 ^ (c + a) ≡ x % 2 ^ c * 2 ^ a + x / 2 ^ (b + c) = mod-pow-add y c a ∙ rw (turned-high, turned-low, mod-mod-pow x b c) in
+      let whole : x / 2 ^ (b + c) * 2 ^ b + x / 2 ^ c % 2 ^ b ≡ x / 2 ^ c = rw (add-comm b c, ← shr-shr x c b) (split (x / 2 ^ c) b) in
+      rw (top, rest, pow-add 2 a b) (omega arith)
+
+-- two rotations are one by the sum of their counts
+pub rotations-add : (x a b : ℕ) → x < 2 ^ 32 → a + b ≤ 32 → x ⋘ a ⋘ b ≡ x ⋘ (a + b)
+rotations-add x a b word within =
+    let c = 32 - (a + b) in
+    let i : 32 - a ≡ b + c = omega arith in
+    let j : 32 - b ≡ c + a = omega arith in
+    let e : 32 ≡ a + (b + c) = omega arith in
+    rw (rotated-is (x ⋘ a) b (omega arith), rotated-is x a (omega arith), rotated-is x (a + b) within, i, j)
+    (turned-twice x a b c (subst (λ (m : ℕ). x < 2 ^ m) e word))
+
+-- a word and itself rotated, both rotated
+pub rotated-pair : (x m n : ℕ) → x < 2 ^ 32 → m + n ≤ 32 → (x ⊕ (x ⋘ m)) ⋘ n ≡ (x ⋘ n) ⊕ (x ⋘ (m + n))
+rotated-pair x m n word within =
+    rotated-xor x (x ⋘ m) n word (rotated-lt x m word (omega arith)) (omega arith) ∙ ap (λ (y : ℕ). (x ⋘ n) ⊕ y) (rotations-add x m n word within)
 
 -- ---- exclusive or
 

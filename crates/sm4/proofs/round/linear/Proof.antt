@@ -1,5 +1,6 @@
 use borrow.Author.Needs.{needs}
-use Rattle.sm4.specs.Sm4.{linear}
+use native.Mathlib.Omega.{arith}
+use Rattle.sm4.specs.Sm4Laws.{linear-by-eights}
 use Rattle.sm4.proofs.round.linear.Statement.{statement}
 use Rattle.sm4.proofs.round.linear.Tie as tie
 
@@ -16,8 +17,7 @@ rotate-left-requires-4 : tie.Need-rotate-left-requires-4
 rotate-left-requires-4 c κs = search needs
 
 returns : tie.Need-returns
-unfolding linear
-returns c = cc
+returns c = cc (linear-by-eights (c .before .before .before .before .args .b) (omega arith))
 
 pub linear-spec : {M : Type 1} → statement M
 linear-spec =
