@@ -1,10 +1,10 @@
 -- What each function of the code returns, over what the functions that it calls ensure.
 use Prim.Native.Nat.{ℕ, zero, suc, _+_, _-_, _*_, _/_, _%_, _^_, _≤_, _<_}
-use mathlib.Core.Path.{_≡_, refl, sym, _∙_}
-use mathlib.Core.Bool.{Bool, true, false, not, _&&_, _||_}
+use mathlib.Core.Path.{_≡_, refl, sym, ap, _∙_}
+use mathlib.Core.Bool.{Bool, true, false, not, cond, _&&_, _||_}
 use mathlib.Core.List.{List, [], _∷_, _++_, map, append-nil}
 use mathlib.Core.Option.{Option, none, some}
-use native.Mathlib.Nat.{add-zero, zero-lt-suc, le-trans, le-mul-of-pos-right, one-le-pow}
+use native.Mathlib.Nat.{add-zero, zero-lt-suc, le-trans, le-mul-of-pos-right, one-le-pow, pow-suc, pow-le-pow-right}
 use native.Mathlib.Numerals.{add-one}
 use native.Mathlib.Omega.{arith}
 use borrow.Author.Tests.{eq-eqb, ne-eqb, lt-ltb, le-ltb, le-leb, lt-leb, ltb-true, ltb-false, leb-true, leb-false, eqb-true, eqb-false, not-true, not-false}
@@ -84,6 +84,56 @@ module _ (s : List ℕ) (i v : ℕ) {right : Bool} (within : i < length s) (test
 pub digits-end : (s : List ℕ) (i v : ℕ) → length s ≤ i → v < 2 ^ 64 → Number.Value v ≡ bounded (digitsFrom v (drop i s))
 unfolding digitsFrom bounded
 digits-end s i v h l = rw (drop-of-length-le s h, lt-ltb v (2 ^ 64) l)
+
+-- what the loop of `few_digits` keeps: where all digits up to i are right they give the value, and what is left gives the whole;
+-- right or wrong, each counts at most 15
+pub record ReadAll (s : List ℕ) (value i : ℕ) (right : Bool) : Type 0 where
+  pub within : i ≤ length s
+  pub small : 3 * value + 5 ≤ 5 * 10 ^ i
+  pub rest : cond right (digitsFrom value (drop i s)) none ≡ digitsFrom 0 s
+
+both-right : (a b : Bool) (o : Option ℕ) → cond (a && b) o none ≡ cond a (cond b o none) none
+both-right true b o = refl
+both-right false b o = refl
+
+pub read-none : (s : List ℕ) → ReadAll s 0 0 true
+read-none s = record { within = omega arith; small = omega arith; rest = refl }
+
+module _ (s : List ℕ) {value i : ℕ} {right : Bool} (short : length s ≤ 19) (kept : ReadAll s value i right) where
+  all-small : value < 2 ^ 64
+  all-small = let p = pow-le-pow-right {n = 10} (zero-lt-suc 9) {i = i} {j = 19} (omega arith) in omega arith
+
+  module _ (within : i < length s) where
+    -- one digit more, right or wrong, leaves the number below 2^64
+    pub all-room : value * 10 + getD s i 0 % 16 < 2 ^ 64
+    all-room = let p = pow-le-pow-right {n = 10} (zero-lt-suc 9) {i = i} {j = 18} (omega arith) in omega arith
+
+    all-rest : (ok : Bool) → ok ≡ ltb (digitValue (getD s i 0)) 10
+        → cond ok (digitsFrom (value * 10 + getD s i 0 % 16) (drop (i + 1) s)) none ≡ digitsFrom value (drop i s)
+    unfolding digitsFrom
+    all-rest true e =
+        let d = decimal-value (getD s i 0) (sym e) in
+        let half : getD s i 0 % 16 ≡ digitValue (getD s i 0) = omega arith in
+        rw (add-one, drop-cons s i 0 within, ← e, half)
+    all-rest false e = rw (drop-cons s i 0 within, ← e)
+
+    pub read-all-more : {ok : Bool} → ok ≡ ltb (digitValue (getD s i 0)) 10 → ReadAll s (value * 10 + getD s i 0 % 16) (i + 1) (right && ok)
+    read-all-more {ok} e =
+        let p = pow-suc 10 i in
+        record {
+          within = omega arith;
+          small = rw (add-one i) (omega arith);
+          rest = both-right right ok _ ∙ ap (λ o. cond right o none) (all-rest ok e) ∙ kept .rest;
+        }
+
+  module _ (over : length s ≤ i) where
+    pub all-right : right ≡ true → Number.Value value ≡ bounded (digitsFrom 0 s)
+    unfolding digitsFrom bounded
+    all-right t = rw (← kept .rest, t, drop-of-length-le s over, lt-ltb value (2 ^ 64) all-small)
+
+    pub some-wrong : right ≡ false → Number.Bad ≡ bounded (digitsFrom 0 s)
+    unfolding bounded
+    some-wrong f = rw (← kept .rest, f)
 
 pub decimal-empty : (s : List ℕ) → length s ≡ 0 → Number.Bad ≡ numberOf s
 unfolding decimalOf bounded

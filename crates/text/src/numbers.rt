@@ -3,6 +3,7 @@ use crate::digit::is_decimal;
 ghost use mathlib.Core.Path.{_≡_};
 ghost use Prim.Native.Nat.{_+_, _*_, _^_, _≤_};
 ghost use lib.Dec.{ltb};
+ghost use lib.ListN.{length};
 ghost use Rattle.text.specs.Text.{digitsFrom, bounded, numberOf};
 
 // A number below 2^64, or bytes that are none.
@@ -43,6 +44,27 @@ fn digits(s: &[u8]) -> Number
     Number::Value(value)
 }
 
+// The same of at most 19 digits, which are below 2^64 whatever they are. No digit is branched on, since it could not be foreseen.
+// The lower half of a digit is its value; that of another byte is at most 15, for which there is room too.
+fn few_digits(s: &[u8]) -> Number
+    requires { ⌜ length (now s) ≤ 19 ⌝ }
+    ensures { λ r. ⌜ r ≡ bounded (digitsFrom 0 (now (s .entry))) ⌝ }
+{
+    let mut value: u64 = 0;
+    let mut right = true;
+    let mut i = 0;
+    while i < s.len() {
+        let b = s[i];
+        right = right & is_decimal(b);
+        value = value * 10 + (b % 16) as u64;
+        i += 1;
+    }
+    if right {
+        return Number::Value(value);
+    }
+    Number::Bad
+}
+
 // The number in s. A zero in front is right only where it stands alone.
 pub fn decimal(s: &[u8]) -> Number
     ensures { λ r. ⌜ r ≡ numberOf (now (s .entry)) ⌝ }
@@ -51,6 +73,9 @@ pub fn decimal(s: &[u8]) -> Number
         return Number::Bad;
     }
     if s[0] != 0x30 {
+        if s.len() <= 19 {
+            return few_digits(s);
+        }
         return digits(s);
     }
     if s.len() == 1 {

@@ -1,49 +1,32 @@
-// The search for a byte, sixteen at a time, for the proved callers: they require what those give.
+// The search for a byte, eight at a time, for the proved callers: they require what those give.
 use bytes::scan::find as find_each;
+use std::num::wrapping_sub_u64;
+use words::bytes::le_eight;
 ghost use mathlib.Core.Path.{_≡_};
-ghost use Prim.Native.Nat.{_+_, _≤_};
+ghost use Prim.Native.Nat.{_+_, _/_, _≤_};
+ghost use lib.Count.{trailingZeros};
 ghost use lib.ListN.{length};
 ghost use Rattle.bytes.specs.Bytes.{indexOf, slice};
-ghost use Rattle.text.specs.ScanLaws.{noneOf};
+ghost use Rattle.text.specs.Steps.{firstZero};
 
-// Whether none of the sixteen bytes from at on is b. All are compared, since a branch for each would cost more.
-fn none_of_sixteen(s: &[u8], at: usize, b: u8) -> bool
-    requires { ⌜ at + 16 ≤ length (now s) ⌝ }
-    ensures { λ r. ⌜ r ≡ noneOf 16 (now (s .entry)) at b ⌝ }
+// 1 in each byte, and the highest bit of each.
+const ONES: u64 = 0x0101_0101_0101_0101;
+
+const HIGHEST: u64 = 0x8080_8080_8080_8080;
+
+// Marks the zero bytes of x up to the first: the lowest bit that is set is the highest bit of that byte.
+fn zero_marks(x: u64) -> u64
+    ensures { λ r. ⌜ trailingZeros 64 r / 8 ≡ firstZero 8 x ⌝ }
 {
-    (s[at] != b)
-        & (s[at + 1] != b)
-        & (s[at + 2] != b)
-        & (s[at + 3] != b)
-        & (s[at + 4] != b)
-        & (s[at + 5] != b)
-        & (s[at + 6] != b)
-        & (s[at + 7] != b)
-        & (s[at + 8] != b)
-        & (s[at + 9] != b)
-        & (s[at + 10] != b)
-        & (s[at + 11] != b)
-        & (s[at + 12] != b)
-        & (s[at + 13] != b)
-        & (s[at + 14] != b)
-        & (s[at + 15] != b)
+    wrapping_sub_u64(x, ONES) & !x & HIGHEST
 }
 
-// A place from which the search may go on: no b stands before it.
-fn skip(s: &[u8], from: usize, to: usize, b: u8) -> usize
-    requires { ⌜ from ≤ to ⌝ }
-    requires { ⌜ to ≤ length (now s) ⌝ }
-    ensures { λ r. ⌜ r ≤ to ⌝ }
-    ensures { λ r. ⌜ from + indexOf b (slice from to (now (s .entry))) ≡ r + indexOf b (slice r to (now (s .entry))) ⌝ }
+// Marks the first b among the eight bytes from at on.
+fn marks(s: &[u8], at: usize, b: u8) -> u64
+    requires { ⌜ at + 8 ≤ length (now s) ⌝ }
+    ensures { λ r. ⌜ trailingZeros 64 r / 8 ≡ indexOf b (slice at (at + 8) (now (s .entry))) ⌝ }
 {
-    let mut at = from;
-    while at + 16 <= to {
-        if !none_of_sixteen(s, at, b) {
-            return at;
-        }
-        at += 16;
-    }
-    at
+    zero_marks(le_eight(s, at) ^ (b as u64 * ONES))
 }
 
 // The place of the first b from `from` up to, not including, `to`; `to` where there is none.
@@ -53,5 +36,13 @@ pub fn find(s: &[u8], from: usize, to: usize, b: u8) -> usize
     ensures { λ r. ⌜ r ≡ from + indexOf b (slice from to (now (s .entry))) ⌝ }
     ensures { λ r. ⌜ r ≤ to ⌝ }
 {
-    find_each(s, skip(s, from, to, b), to, b)
+    let mut at = from;
+    while at + 8 <= to {
+        let found = marks(s, at, b);
+        if found != 0 {
+            return at + (u64::trailing_zeros(found) / 8) as usize;
+        }
+        at += 8;
+    }
+    find_each(s, at, to, b)
 }

@@ -7,6 +7,7 @@ pub mod WordsLaws
 pub mod Lists
 pub mod ListsLaws
 pub mod SwapLaws
+pub mod ByteBitsLaws
 pub mod Tables
 pub mod Codes
 pub mod Output

@@ -16,7 +16,7 @@ use Rattle.words.specs.Lists.{allZero}
 use Rattle.words.specs.ListsLaws.{and-assoc, by-test}
 
 -- the first byte apart
-leAt-front : (k : ℕ) (s : List ℕ) (at : ℕ) → leAt (suc k) s at ≡ getD s at 0 + 256 * leAt k s (suc at)
+pub leAt-front : (k : ℕ) (s : List ℕ) (at : ℕ) → leAt (suc k) s at ≡ getD s at 0 + 256 * leAt k s (suc at)
 unfolding leAt
 leAt-front zero s at = rw (add-zero at) (omega arith)
 leAt-front (suc k) s at =
