@@ -42,7 +42,7 @@ unfolding filled
 message-short key timed s k = let l = step-length timed s in rw (length-append, length-append, length-replicate) (omega arith)
 
 -- the sum of a lane is the cut of its message
-message-cut : (m : List ℕ) (l : ℕ) (w : List ℕ) → length m < 56 → take 16 (laneOf 80 l w) ≡ wordsAt 16 (padded m) 0 → laneSum l w ≡ cut (sm3Of m)
+message-cut : (m : List ℕ) (l : ℕ) (w : List ℕ) → length m < 56 → take 16 (laneOf 68 l w) ≡ wordsAt 16 (padded m) 0 → laneSum l w ≡ cut (sm3Of m)
 message-cut m l w h e = rw e (ap wordTotal (one-block m h) ∙ sym (cut-hash m))
 
 -- four messages put one after the other
@@ -51,13 +51,13 @@ pub cuts-of : (key : List ℕ) (timed : Bool) (s : ℕ) (w w₁ w₂ w₃ w₄ :
     → Message 2 (key ++ filled (stepId timed (s + 2))) w₂ w₃ → Message 3 (key ++ filled (stepId timed (s + 3))) w₃ w₄
     → r ≡ laneSums w₄ → r ≡ cutsFrom (hashedCut key timed) 4 s
 cuts-of key timed s w w₁ w₂ w₃ w₄ k m₀ m₁ m₂ m₃ e =
-    let lane : (l : ℕ) (v : List ℕ) (n : ℕ) → laneOf 80 l w₄ ≡ laneOf 80 l v → take 16 (laneOf 80 l v) ≡ wordsAt 16 (padded (key ++ filled (stepId timed n))) 0
+    let lane : (l : ℕ) (v : List ℕ) (n : ℕ) → laneOf 68 l w₄ ≡ laneOf 68 l v → take 16 (laneOf 68 l v) ≡ wordsAt 16 (padded (key ++ filled (stepId timed n))) 0
     → laneSum l w₄ ≡ hashedCut key timed n =
     (λ l v n kept block. message-cut (key ++ filled (stepId timed n)) l w₄ (message-short key timed n k) (ap (take 16) kept ∙ block)) in
-    let k₂ : laneOf 80 2 w₄ ≡ laneOf 80 2 w₃ = m₃ .rest 80 2 (omega arith) (λ z. omega arith) in
-    let k₁ : laneOf 80 1 w₄ ≡ laneOf 80 1 w₂ = m₃ .rest 80 1 (omega arith) (λ z. omega arith) ∙ m₂ .rest 80 1 (omega arith) (λ z. omega arith) in
-    let k₀ : laneOf 80 0 w₄ ≡ laneOf 80 0 w₁ =
-    m₃ .rest 80 0 (omega arith) (λ z. omega arith) ∙ m₂ .rest 80 0 (omega arith) (λ z. omega arith) ∙ m₁ .rest 80 0 (omega arith) (λ z. omega arith) in
+    let k₂ : laneOf 68 2 w₄ ≡ laneOf 68 2 w₃ = m₃ .rest 68 2 (omega arith) (λ z. omega arith) in
+    let k₁ : laneOf 68 1 w₄ ≡ laneOf 68 1 w₂ = m₃ .rest 68 1 (omega arith) (λ z. omega arith) ∙ m₂ .rest 68 1 (omega arith) (λ z. omega arith) in
+    let k₀ : laneOf 68 0 w₄ ≡ laneOf 68 0 w₁ =
+    m₃ .rest 68 0 (omega arith) (λ z. omega arith) ∙ m₂ .rest 68 0 (omega arith) (λ z. omega arith) ∙ m₁ .rest 68 0 (omega arith) (λ z. omega arith) in
     let c₀ = lane 0 w₁ s k₀ (m₀ .block) in
     let c₁ = lane 1 w₂ (s + 1) k₁ (m₁ .block) in
     let c₂ = lane 2 w₃ (s + 2) k₂ (m₂ .block) in

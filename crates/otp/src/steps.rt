@@ -48,7 +48,7 @@ pub fn hashed_cut(key: &[u8], timed: bool, s: u64) -> u32
 // Puts key and ID of step s where message l stands.
 fn put_step(w: &mut [u32], l: usize, key: &[u8], timed: bool, s: u64)
     requires { ⌜ l < 4 ⌝ }
-    requires { ⌜ length (now w) ≡ 320 ⌝ }
+    requires { ⌜ length (now w) ≡ 272 ⌝ }
     requires { ⌜ length (now key) ≤ 32 ⌝ }
     ensures { λ _. ⌜ Message l (now (key .entry) ++ filled (stepId timed s)) (now (w .entry)) (now (w .exit)) ⌝ }
 {
@@ -67,7 +67,7 @@ pub fn hashed_cuts(key: &[u8], timed: bool, s: u64) -> [u32; 4]
     requires { ⌜ s < 2 ^ 63 ⌝ }
     ensures { λ r. ⌜ r ≡ cutsFrom (hashedCut (now (key .entry)) timed) 4 s ⌝ }
 {
-    let mut w = [0u32; 320];
+    let mut w = [0u32; 272];
     put_step(&mut w, 0, key, timed, s);
     put_step(&mut w, 1, key, timed, s + 1);
     put_step(&mut w, 2, key, timed, s + 2);

@@ -26,7 +26,7 @@ pub fn hash_sum(m: &mut [u8], len: usize) -> u32
 // m, with zeros behind it, and is padded there.
 pub fn put_message(w: &mut [u32], l: usize, m: &mut [u8], len: usize)
     requires { ⌜ l < 4 ⌝ }
-    requires { ⌜ length (now w) ≡ 320 ⌝ }
+    requires { ⌜ length (now w) ≡ 272 ⌝ }
     requires { ⌜ length (now m) ≡ 128 ⌝ }
     requires { ⌜ len < 56 ⌝ }
     requires { ⌜ drop len (now m) ≡ replicate (128 - len) 0 ⌝ }
@@ -38,7 +38,7 @@ pub fn put_message(w: &mut [u32], l: usize, m: &mut [u8], len: usize)
 
 // The sums for the four messages.
 pub fn four_sums(w: &mut [u32]) -> [u32; 4]
-    requires { ⌜ length (now w) ≡ 320 ⌝ }
+    requires { ⌜ length (now w) ≡ 272 ⌝ }
     ensures { λ r. ⌜ r ≡ laneSums (now (w .entry)) ⌝ }
 {
     let t = constants();
@@ -46,6 +46,7 @@ pub fn four_sums(w: &mut [u32]) -> [u32; 4]
     let mut s = four::spread(v);
     four::early_rounds(&mut s, w, &t);
     four::late_rounds(&mut s, w, &t);
+    four::last_rounds(&mut s, w, &t);
     [
         four::sum_at(&s, 0, v),
         four::sum_at(&s, 1, v),
