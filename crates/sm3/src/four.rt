@@ -312,7 +312,7 @@ pub(crate) fn spread(v: Registers) -> [u32; 32]
 }
 
 // Puts the sixteen words of a block where those of message l stand.
-pub(crate) fn put_block(w: &mut [u32], l: usize, m: &[u8])
+pub fn put_block(w: &mut [u32], l: usize, m: &[u8])
     requires { ⌜ l < 4 ⌝ }
     requires { ⌜ length (now w) ≡ 272 ⌝ }
     requires { ⌜ 64 ≤ length (now m) ⌝ }
