@@ -1,4 +1,4 @@
-// The ID of T, C and Q (6.1), laid into a buffer of zeros.
+// The ID of T, C and Q (6.1), laid into a buffer.
 use crate::Factor;
 use bytes::copy;
 use words::bytes::put_be;

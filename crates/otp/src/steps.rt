@@ -4,7 +4,8 @@ use crate::id::put_bytes;
 use crate::id::put_id;
 use crate::prepared::hashed;
 use sm3::sums::four_sums;
-use sm3::sums::put_message;
+use sm3::sums::pad;
+use sm3::sums::put_block;
 ghost use mathlib.Core.Path.{_≡_};
 ghost use mathlib.Core.List.{_++_};
 ghost use Prim.Native.Nat.{_^_, _≤_, _<_};
@@ -12,6 +13,7 @@ ghost use lib.ListN.{length};
 ghost use Rattle.sm3.specs.FourLaws.{Message};
 ghost use Rattle.otp.specs.Password.{filled};
 ghost use Rattle.otp.specs.StepCuts.{timeAt, countAt, stepId, hashedCut, cutsFrom};
+ghost use Rattle.otp.specs.StepLaws.{Awaits};
 
 // A time token's step is its time factor T, an event token's its count C.
 fn time_at(timed: bool, s: u64) -> Factor
@@ -45,32 +47,36 @@ pub fn hashed_cut(key: &[u8], timed: bool, s: u64) -> u32
     hashed(key, time, count, &none)
 }
 
-// Puts key and ID of step s where message l stands.
-fn put_step(w: &mut [u32], l: usize, key: &[u8], timed: bool, s: u64)
+// Puts the ID of step s behind the key, over what stands there, and the block as message l.
+fn put_step(w: &mut [u32], l: usize, m: &mut [u8], key: &[u8], timed: bool, s: u64)
     requires { ⌜ l < 4 ⌝ }
-    requires { ⌜ length (now w) ≡ 320 ⌝ }
+    requires { ⌜ length (now w) ≡ 272 ⌝ }
+    requires { ⌜ length (now m) ≡ 128 ⌝ }
     requires { ⌜ length (now key) ≤ 32 ⌝ }
+    requires { ⌜ Awaits (now key) timed (now m) ⌝ }
     ensures { λ _. ⌜ Message l (now (key .entry) ++ filled (stepId timed s)) (now (w .entry)) (now (w .exit)) ⌝ }
+    ensures { λ _. ⌜ Awaits (now (key .entry)) timed (now (m .exit)) ⌝ }
 {
     let none = [0u8; 0];
-    let mut buffer = [0u8; 128];
-    let at = put_bytes(&mut buffer, 0, key);
     let time = time_at(timed, s);
     let count = count_at(timed, s);
-    let end = put_id(&mut buffer, at, time, count, &none);
-    put_message(w, l, &mut buffer, end);
+    put_id(m, key.len(), time, count, &none);
+    put_block(w, l, m);
 }
 
-// The cuts of the steps s to s + 3.
+// The cuts of the steps s to s + 3. Key and padding are laid once.
 pub fn hashed_cuts(key: &[u8], timed: bool, s: u64) -> [u32; 4]
     requires { ⌜ length (now key) ≤ 32 ⌝ }
     requires { ⌜ s < 2 ^ 63 ⌝ }
     ensures { λ r. ⌜ r ≡ cutsFrom (hashedCut (now (key .entry)) timed) 4 s ⌝ }
 {
-    let mut w = [0u32; 320];
-    put_step(&mut w, 0, key, timed, s);
-    put_step(&mut w, 1, key, timed, s + 1);
-    put_step(&mut w, 2, key, timed, s + 2);
-    put_step(&mut w, 3, key, timed, s + 3);
+    let mut m = [0u8; 128];
+    let at = put_bytes(&mut m, 0, key);
+    pad(&mut m, at + 16);
+    let mut w = [0u32; 272];
+    put_step(&mut w, 0, &mut m, key, timed, s);
+    put_step(&mut w, 1, &mut m, key, timed, s + 1);
+    put_step(&mut w, 2, &mut m, key, timed, s + 2);
+    put_step(&mut w, 3, &mut m, key, timed, s + 3);
     four_sums(&mut w)
 }

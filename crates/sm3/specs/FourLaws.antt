@@ -8,13 +8,13 @@ use native.Mathlib.Omega.{arith}
 use borrow.Author.Tests.{ltb-true, ltb-false}
 use lib.Dec.{ltb}
 use lib.ListN.{length, getD, set, take, length-append, length-set, List·getD-append}
-use lib.Seq.{getD-append-seam, getD-set-same, getD-set-other, getD-take, set-append-left, set-at, set-out}
+use lib.Seq.{getD-append-seam, getD-set-same, getD-set-other, set-append-left, set-at, set-out}
 use Rattle.words.specs.ListsLaws.{by-test}
 use Rattle.words.specs.Bytes.{beAt}
 use Rattle.words.specs.Words.{_⊕_, _⋘_}
 use Rattle.sm3.specs.declared.Registers.{Registers}
-use Rattle.sm3.specs.Sm3.{ff, gg, p1, roundWith, round, nextWord, expand, wordsAt, padded, iterated, iv, compressed, xored}
-use Rattle.sm3.specs.Sm3Laws.{constants, round-of, fourRounds, roundsFrom, grown, four-grown, grown-on, grown-expands, rounds-grown, rounds-on, rounds-from-zero, Reached, reached-none, reached-more, load-more, words-append, length-padded, lastValue, wordTotal}
+use Rattle.sm3.specs.Sm3.{ff, gg, p1, roundWith, round, nextWord, wordsAt, padded, iterated, iv, compressed, xored}
+use Rattle.sm3.specs.Sm3Laws.{constants, round-of, fourRounds, grown, four-grown, four-past, Reached, reached-none, reached-more, reached-on, compress-of, load-more, words-append, length-padded, lastValue, wordTotal}
 use Rattle.sm3.specs.PaddingLaws.{last-blocks-one, last-blocks-fill}
 
 -- ---- one message's words
@@ -91,43 +91,47 @@ apart-none l s = λ n k p h. refl
 
 -- ---- the words
 
-pub next-lane : (w : List ℕ) (l j : ℕ) → 16 ≤ j → j < 80
+pub next-lane : (w : List ℕ) (l j : ℕ) → 16 ≤ j → j < 68
     → p1 (getD w (4 * (j - 16) + l) 0 ⊕ getD w (4 * (j - 9) + l) 0 ⊕ (getD w (4 * (j - 3) + l) 0 ⋘ 15)) ⊕ (getD w (4 * (j - 13) + l) 0 ⋘ 7) ⊕ getD w (4 * (j - 6) + l) 0
-    ≡ nextWord (laneOf 80 l w) j
+    ≡ nextWord (laneOf 68 l w) j
 unfolding nextWord
 next-lane w l j h k =
     rw (
-      lane-get 80 l w (j - 16) (omega arith),
-      lane-get 80 l w (j - 9) (omega arith),
-      lane-get 80 l w (j - 3) (omega arith),
-      lane-get 80 l w (j - 13) (omega arith),
-      lane-get 80 l w (j - 6) (omega arith),
+      lane-get 68 l w (j - 16) (omega arith),
+      lane-get 68 l w (j - 9) (omega arith),
+      lane-get 68 l w (j - 3) (omega arith),
+      lane-get 68 l w (j - 13) (omega arith),
+      lane-get 68 l w (j - 6) (omega arith),
     )
 
 -- message l has four words more, from word j on
 pub record Grew (l j : ℕ) (w w′ : List ℕ) : Type 0 where
-  pub words : laneOf 80 l w′ ≡ grown 4 (laneOf 80 l w) j
+  pub words : laneOf 68 l w′ ≡ grown 4 (laneOf 68 l w) j
   pub rest : Apart l w w′
 
-pub grew-four : (w : List ℕ) (l j : ℕ) {w₁ w₂ w₃ w₄ : List ℕ} → l < 4 → j + 4 ≤ 80 → length w ≡ 320
+pub grew-four : (w : List ℕ) (l j : ℕ) {w₁ w₂ w₃ w₄ : List ℕ} → l < 4 → j + 4 ≤ 68 → length w ≡ 272
     → length w₁ ≡ length w → length w₂ ≡ length w₁ → length w₃ ≡ length w₂
-    → w₁ ≡ set w (4 * j + l) (nextWord (laneOf 80 l w) j)
-    → w₂ ≡ set w₁ (4 * (j + 1) + l) (nextWord (laneOf 80 l w₁) (j + 1))
-    → w₃ ≡ set w₂ (4 * (j + 2) + l) (nextWord (laneOf 80 l w₂) (j + 2))
-    → w₄ ≡ set w₃ (4 * (j + 3) + l) (nextWord (laneOf 80 l w₃) (j + 3))
+    → w₁ ≡ set w (4 * j + l) (nextWord (laneOf 68 l w) j)
+    → w₂ ≡ set w₁ (4 * (j + 1) + l) (nextWord (laneOf 68 l w₁) (j + 1))
+    → w₃ ≡ set w₂ (4 * (j + 2) + l) (nextWord (laneOf 68 l w₂) (j + 2))
+    → w₄ ≡ set w₃ (4 * (j + 3) + l) (nextWord (laneOf 68 l w₃) (j + 3))
     → Grew l j w w₄
 grew-four w l j {w₁} {w₂} {w₃} {w₄} q h k k₁ k₂ k₃ p₁ p₂ p₃ p₄ =
-    let e₁ = ap (laneOf 80 l) p₁ ∙ lane-set 80 l w j (nextWord (laneOf 80 l w) j) (omega arith) in
-    let e₂ = ap (laneOf 80 l) p₂ ∙ lane-set 80 l w₁ (j + 1) (nextWord (laneOf 80 l w₁) (j + 1)) (omega arith) in
-    let e₃ = ap (laneOf 80 l) p₃ ∙ lane-set 80 l w₂ (j + 2) (nextWord (laneOf 80 l w₂) (j + 2)) (omega arith) in
-    let e₄ = ap (laneOf 80 l) p₄ ∙ lane-set 80 l w₃ (j + 3) (nextWord (laneOf 80 l w₃) (j + 3)) (omega arith) in
-    let a₁ = apart-more l w w j (nextWord (laneOf 80 l w) j) q (apart-none l w) p₁ in
-    let a₂ = apart-more l w w₁ (j + 1) (nextWord (laneOf 80 l w₁) (j + 1)) q a₁ p₂ in
-    let a₃ = apart-more l w w₂ (j + 2) (nextWord (laneOf 80 l w₂) (j + 2)) q a₂ p₃ in
+    let e₁ = ap (laneOf 68 l) p₁ ∙ lane-set 68 l w j (nextWord (laneOf 68 l w) j) (omega arith) in
+    let e₂ = ap (laneOf 68 l) p₂ ∙ lane-set 68 l w₁ (j + 1) (nextWord (laneOf 68 l w₁) (j + 1)) (omega arith) in
+    let e₃ = ap (laneOf 68 l) p₃ ∙ lane-set 68 l w₂ (j + 2) (nextWord (laneOf 68 l w₂) (j + 2)) (omega arith) in
+    let e₄ = ap (laneOf 68 l) p₄ ∙ lane-set 68 l w₃ (j + 3) (nextWord (laneOf 68 l w₃) (j + 3)) (omega arith) in
+    let a₁ = apart-more l w w j (nextWord (laneOf 68 l w) j) q (apart-none l w) p₁ in
+    let a₂ = apart-more l w w₁ (j + 1) (nextWord (laneOf 68 l w₁) (j + 1)) q a₁ p₂ in
+    let a₃ = apart-more l w w₂ (j + 2) (nextWord (laneOf 68 l w₂) (j + 2)) q a₂ p₃ in
     record {
-      words = four-grown (laneOf 80 l w) j e₁ e₂ e₃ e₄;
-      rest = apart-more l w w₃ (j + 3) (nextWord (laneOf 80 l w₃) (j + 3)) q a₃ p₄;
+      words = four-grown (laneOf 68 l w) j e₁ e₂ e₃ e₄;
+      rest = apart-more l w w₃ (j + 3) (nextWord (laneOf 68 l w₃) (j + 3)) q a₃ p₄;
     }
+
+-- past W_67 there is nothing to grow
+pub grew-past : (l j : ℕ) (w : List ℕ) → 68 ≤ j → Grew l j w w
+grew-past l j w h = record { words = four-past (laneOf 68 l w) j (rw (length-lane 68 l w) h); rest = apart-none l w }
 
 -- ---- the registers
 
@@ -203,22 +207,22 @@ put-eight s l r {s₁} {s₂} {s₃} {s₄} {s₅} {s₆} {s₇} {s₈} q k p₀
 -- a round of message l from its parts
 pub round-lane : (j l : ℕ) (w t : List ℕ) (r : Registers) {f g : ℕ} {q : Registers} → j < 64 → t ≡ constants
     → f ≡ ff j (r .a) (r .b) (r .c) → g ≡ gg j (r .e) (r .f) (r .g)
-    → q ≡ roundWith f g (getD t j 0) (getD w (4 * j + l) 0) (getD w (4 * j + l) 0 ⊕ getD w (4 * (j + 4) + l) 0) r → q ≡ round j (laneOf 80 l w) r
+    → q ≡ roundWith f g (getD t j 0) (getD w (4 * j + l) 0) (getD w (4 * j + l) 0 ⊕ getD w (4 * (j + 4) + l) 0) r → q ≡ round j (laneOf 68 l w) r
 round-lane j l w t r h table p q e =
-    round-of j (laneOf 80 l w) t r h table p q (e ∙ rw (lane-get 80 l w j (omega arith), lane-get 80 l w (j + 4) (omega arith)))
+    round-of j (laneOf 68 l w) t r h table p q (e ∙ rw (lane-get 68 l w j (omega arith), lane-get 68 l w (j + 4) (omega arith)))
 
 -- ---- four rounds of message l, then of all
 
 -- message l has four rounds more, from round j on, and the words that go along
 pub record Stepped (l j : ℕ) (s w s′ w′ : List ℕ) : Type 0 where
-  pub words : laneOf 80 l w′ ≡ grown 4 (laneOf 80 l w) (16 + j)
-  pub value : valueAt l s′ ≡ fourRounds j (laneOf 80 l w′) (valueAt l s)
+  pub words : laneOf 68 l w′ ≡ grown 4 (laneOf 68 l w) (16 + j)
+  pub value : valueAt l s′ ≡ fourRounds j (laneOf 68 l w′) (valueAt l s)
   pub rest-value : Apart l s s′
   pub rest-words : Apart l w w′
 
 pub stepped-of : (l j : ℕ) (s w : List ℕ) {s′ w′ : List ℕ} {r r₁ r₂ r₃ r₄ : Registers} → Grew l (16 + j) w w′ → r ≡ valueAt l s
-    → r₁ ≡ round j (laneOf 80 l w′) r → r₂ ≡ round (j + 1) (laneOf 80 l w′) r₁ → r₃ ≡ round (j + 2) (laneOf 80 l w′) r₂
-    → r₄ ≡ round (j + 3) (laneOf 80 l w′) r₃ → Put l r₄ s s′ → Stepped l j s w s′ w′
+    → r₁ ≡ round j (laneOf 68 l w′) r → r₂ ≡ round (j + 1) (laneOf 68 l w′) r₁ → r₃ ≡ round (j + 2) (laneOf 68 l w′) r₂
+    → r₄ ≡ round (j + 3) (laneOf 68 l w′) r₃ → Put l r₄ s s′ → Stepped l j s w s′ w′
 stepped-of l j s w grew e e₁ e₂ e₃ e₄ put =
     record {
       words = grew .words;
@@ -229,12 +233,12 @@ stepped-of l j s w grew e e₁ e₂ e₃ e₄ put =
 
 -- each message has four rounds more
 pub record Moved (j : ℕ) (s w s′ w′ : List ℕ) : Type 0 where
-  pub each : (k : ℕ) → k < 4 → (laneOf 80 k w′ ≡ grown 4 (laneOf 80 k w) (16 + j)) × (valueAt k s′ ≡ fourRounds j (laneOf 80 k w′) (valueAt k s))
+  pub each : (k : ℕ) → k < 4 → (laneOf 68 k w′ ≡ grown 4 (laneOf 68 k w) (16 + j)) × (valueAt k s′ ≡ fourRounds j (laneOf 68 k w′) (valueAt k s))
 
 -- the messages before m have, and those from m on are as they were
 pub record Part (m j : ℕ) (s w s′ w′ : List ℕ) : Type 0 where
-  pub done : (k : ℕ) → k < m → k < 4 → (laneOf 80 k w′ ≡ grown 4 (laneOf 80 k w) (16 + j)) × (valueAt k s′ ≡ fourRounds j (laneOf 80 k w′) (valueAt k s))
-  pub left : (k : ℕ) → m ≤ k → k < 4 → (laneOf 80 k w′ ≡ laneOf 80 k w) × (laneOf 8 k s′ ≡ laneOf 8 k s)
+  pub done : (k : ℕ) → k < m → k < 4 → (laneOf 68 k w′ ≡ grown 4 (laneOf 68 k w) (16 + j)) × (valueAt k s′ ≡ fourRounds j (laneOf 68 k w′) (valueAt k s))
+  pub left : (k : ℕ) → m ≤ k → k < 4 → (laneOf 68 k w′ ≡ laneOf 68 k w) × (laneOf 8 k s′ ≡ laneOf 8 k s)
 
 pub part-none : (j : ℕ) (s w : List ℕ) → Part 0 j s w s w
 part-none j s w = record { done = λ k h p. absurd (not-suc-le-zero h); left = λ k h p. (refl, refl) }
@@ -247,7 +251,7 @@ part-more m j s w s₁ w₁ s₂ w₂ q part step =
           (λ t. let b : k < m = ltb-true k m t in
           let n : k ≡ m → ⊥ = (λ e. omega arith) in
           let old = part .done k b p in
-          let ew = step .rest-words 80 k p n in
+          let ew = step .rest-words 68 k p n in
           let es = step .rest-value 8 k p n in
           (ew ∙ old .0, rw (es, ew) (old .1)))
           (λ t. let b : m ≤ k = ltb-false k m t in
@@ -257,7 +261,7 @@ part-more m j s w s₁ w₁ s₂ w₂ q part step =
       left = λ k h p.
           let n : k ≡ m → ⊥ = (λ e. omega arith) in
           let old = part .left k (omega arith) p in
-          (step .rest-words 80 k p n ∙ old .0, step .rest-value 8 k p n ∙ old .1);
+          (step .rest-words 68 k p n ∙ old .0, step .rest-value 8 k p n ∙ old .1);
     }
 
 pub part-all : (m j : ℕ) (s w s′ w′ : List ℕ) → 4 ≤ m → Part m j s w s′ w′ → Moved j s w s′ w′
@@ -266,41 +270,15 @@ part-all m j s w s′ w′ h part = record { each = λ k p. part .done k (omega 
 -- ---- i rounds of all, from round b on
 
 pub record AllReached (i b : ℕ) (s w s′ w′ : List ℕ) : Type 0 where
-  pub each : (k : ℕ) → k < 4 → Reached i b (laneOf 80 k w) (valueAt k s) (laneOf 80 k w′) (valueAt k s′)
+  pub each : (k : ℕ) → k < 4 → Reached i b (laneOf 68 k w) (valueAt k s) (laneOf 68 k w′) (valueAt k s′)
 
 pub all-none : (b : ℕ) (s w : List ℕ) → AllReached 0 b s w s w
-all-none b s w = record { each = λ k p. reached-none b (laneOf 80 k w) (valueAt k s) }
+all-none b s w = record { each = λ k p. reached-none b (laneOf 68 k w) (valueAt k s) }
 
 pub all-more : (i b j : ℕ) (s w s₁ w₁ s₂ w₂ : List ℕ) → j ≡ b + i → AllReached i b s w s₁ w₁ → Moved j s₁ w₁ s₂ w₂ → AllReached (i + 4) b s w s₂ w₂
 all-more i b j s w s₁ w₁ s₂ w₂ e reached moved =
     let place : 16 + j ≡ b + 16 + i = omega arith in
-    record { each = λ k p. reached-more i b j (laneOf 80 k w) (valueAt k s) (reached .each k p) e (moved .each k p .0 ∙ rw place) (moved .each k p .1) }
-
--- ---- the compression function on message l's block
-
-round-take : (m i : ℕ) (w : List ℕ) (r : Registers) → i + 4 < m → round i (take m w) r ≡ round i w r
-unfolding round
-round-take m i w r h = rw (getD-take m w i 0 (omega arith), getD-take m w (i + 4) 0 (omega arith))
-
-rounds-take : (m n j : ℕ) (w : List ℕ) (r : Registers) → j + n + 4 ≤ m → roundsFrom n j (take m w) r ≡ roundsFrom n j w r
-unfolding roundsFrom
-rounds-take m zero j w r h = refl
-rounds-take m (suc n) j w r h = rw (rounds-take m n j w r (omega arith)) (round-take m (j + n) w (roundsFrom n j w r) (omega arith))
-
-pub compress-lane : (v : Registers) (w w₁ w₂ : List ℕ) {early late : Registers} → length w ≡ 80
-    → Reached 16 0 w v w₁ early → Reached 48 16 w₁ early w₂ late → xored late v ≡ compressed v (take 16 w)
-unfolding compressed
-compress-lane v w w₁ w₂ {early} {late} l e r =
-    let p = e .words in
-    let q = r .words in
-    let all : w₂ ≡ grown 12 (grown 52 w 16) 68 = q ∙ rw (p, grown-on 48 16 w 16, ← grown-on 12 52 w 16) in
-    let f : early ≡ roundsFrom 16 0 w₂ v = e .registers ∙ rw q (sym (rounds-grown 48 16 0 w₁ 32 v (omega arith))) in
-    let last : late ≡ roundsFrom 64 0 w₂ v = r .registers ∙ rw f (rounds-on 48 16 0 w₂ v) in
-    let seen : roundsFrom 64 0 w₂ v ≡ roundsFrom 64 0 (expand 52 (take 16 w)) v =
-    rw all (rounds-grown 12 64 0 (grown 52 w 16) 68 v (omega arith)
-    ∙ sym (rounds-take 68 64 0 (grown 52 w 16) v (omega arith))
-    ∙ ap (λ (x : List ℕ). roundsFrom 64 0 x v) (grown-expands 52 w (omega arith))) in
-    rw (rounds-from-zero 64 (expand 52 (take 16 w)) v, last, seen)
+    record { each = λ k p. reached-more i b j (laneOf 68 k w) (valueAt k s) (reached .each k p) e (moved .each k p .0 ∙ rw place) (moved .each k p .1) }
 
 -- ---- from messages to sums
 
@@ -327,25 +305,25 @@ starts-spread v = record { each = λ k p. spread-at k p v }
 
 -- the first n words of the block m are message l's
 pub record Laid (l n : ℕ) (m w w′ : List ℕ) : Type 0 where
-  pub words : take n (laneOf 80 l w′) ≡ wordsAt n m 0
+  pub words : take n (laneOf 68 l w′) ≡ wordsAt n m 0
   pub rest : Apart l w w′
 
 pub laid-none : (l : ℕ) (m w : List ℕ) → Laid l 0 m w w
 unfolding wordsAt
 laid-none l m w = record { words = refl; rest = apart-none l w }
 
-pub laid-more : (l j : ℕ) (m w w₁ : List ℕ) {x : ℕ} {w₂ : List ℕ} → l < 4 → j < 16 → length w₁ ≡ 320 → Laid l j m w w₁ → x ≡ beAt 4 m (4 * j)
+pub laid-more : (l j : ℕ) (m w w₁ : List ℕ) {x : ℕ} {w₂ : List ℕ} → l < 4 → j < 16 → length w₁ ≡ 272 → Laid l j m w w₁ → x ≡ beAt 4 m (4 * j)
     → w₂ ≡ set w₁ (4 * j + l) x → Laid l (j + 1) m w w₂
 laid-more l j m w w₁ {x} {w₂} q h k laid e p =
-    let lane : laneOf 80 l w₂ ≡ set (laneOf 80 l w₁) j x = ap (laneOf 80 l) p ∙ lane-set 80 l w₁ j x (omega arith) in
+    let lane : laneOf 68 l w₂ ≡ set (laneOf 68 l w₁) j x = ap (laneOf 68 l) p ∙ lane-set 68 l w₁ j x (omega arith) in
     record {
-      words = rw lane (load-more m 0 j (laneOf 80 l w₁) (rw (length-lane 80 l w₁) (omega arith)) (laid .words) (e ∙ rw (zero-add (4 * j))));
+      words = rw lane (load-more m 0 j (laneOf 68 l w₁) (rw (length-lane 68 l w₁) (omega arith)) (laid .words) (e ∙ rw (zero-add (4 * j))));
       rest = apart-more l w w₁ j x q (laid .rest) p;
     }
 
 -- message l is m
 pub record Message (l : ℕ) (m w w′ : List ℕ) : Type 0 where
-  pub block : take 16 (laneOf 80 l w′) ≡ wordsAt 16 (padded m) 0
+  pub block : take 16 (laneOf 68 l w′) ≡ wordsAt 16 (padded m) 0
   pub rest : Apart l w w′
 
 pub message-of : (l : ℕ) (m buffer w w′ rest : List ℕ) → buffer ≡ padded m ++ rest → Laid l 16 buffer w w′ → Message l m w w′
@@ -356,19 +334,23 @@ message-of l m buffer w w′ rest e laid =
 
 -- the sum of the hash's words of the message whose block is message l's
 abbrev pub laneSum : ℕ → List ℕ → ℕ
-laneSum l w = wordTotal (compressed iv (take 16 (laneOf 80 l w)))
+laneSum l w = wordTotal (compressed iv (take 16 (laneOf 68 l w)))
 
 abbrev pub laneSums : List ℕ → List ℕ
 laneSums w = laneSum 0 w ∷ laneSum 1 w ∷ laneSum 2 w ∷ laneSum 3 w ∷ []
 
-pub lane-sum : (k : ℕ) (s w s₁ w₁ s₂ w₂ : List ℕ) (v : Registers) {r : ℕ} → k < 4 → v ≡ iv → Starts v s → AllReached 16 0 s w s₁ w₁ → AllReached 48 16 s₁ w₁ s₂ w₂
-    → r ≡ wordTotal (xored (valueAt k s₂) v) → r ≡ laneSum k w
-lane-sum k s w s₁ w₁ s₂ w₂ v p i starts early late e =
-    let begun : Reached 16 0 (laneOf 80 k w) v (laneOf 80 k w₁) (valueAt k s₁) = rw (starts .each k p) at (early .each k p) in
-    e ∙ ap wordTotal (compress-lane v (laneOf 80 k w) (laneOf 80 k w₁) (laneOf 80 k w₂) (length-lane 80 k w) begun (late .each k p)) ∙ rw i
+-- the three runs of rounds make the compression function on each message's block
+module _ (s w s₁ w₁ s₂ w₂ s₃ w₃ : List ℕ) (v : Registers) (i : v ≡ iv) (starts : Starts v s)
+    (early : AllReached 16 0 s w s₁ w₁) (late : AllReached 36 16 s₁ w₁ s₂ w₂) (last : AllReached 12 52 s₂ w₂ s₃ w₃) where
+  lane-sum : (k : ℕ) {r : ℕ} → k < 4 → r ≡ wordTotal (xored (valueAt k s₃) v) → r ≡ laneSum k w
+  lane-sum k p e =
+      let begun : Reached 16 0 (laneOf 68 k w) v (laneOf 68 k w₁) (valueAt k s₁) = rw (starts .each k p) at (early .each k p) in
+      let all = reached-on (reached-on begun (late .each k p)) (last .each k p) in
+      e ∙ ap wordTotal (compress-of (length-lane 68 k w) refl all) ∙ rw i
 
-pub all-sums : (w : List ℕ) {a b c d : ℕ} → a ≡ laneSum 0 w → b ≡ laneSum 1 w → c ≡ laneSum 2 w → d ≡ laneSum 3 w → a ∷ b ∷ c ∷ d ∷ [] ≡ laneSums w
-all-sums w a b c d = rw (a, b, c, d)
+  pub all-sums : {a b c d : ℕ} → a ≡ wordTotal (xored (valueAt 0 s₃) v) → b ≡ wordTotal (xored (valueAt 1 s₃) v)
+      → c ≡ wordTotal (xored (valueAt 2 s₃) v) → d ≡ wordTotal (xored (valueAt 3 s₃) v) → a ∷ b ∷ c ∷ d ∷ [] ≡ laneSums w
+  all-sums a b c d = rw (lane-sum 0 (omega arith) a, lane-sum 1 (omega arith) b, lane-sum 2 (omega arith) c, lane-sum 3 (omega arith) d)
 
 -- the hash of a message of one block
 pub one-block : (m : List ℕ) → length m < 56 → compressed iv (wordsAt 16 (padded m) 0) ≡ lastValue m

@@ -184,6 +184,17 @@ reached-more i s k w₀ r₀ {w} {w′} {r} {r′} reached e p q =
       registers = q ∙ rw (e, kept) (four-more i s w′ r₀);
     }
 
+-- one run of rounds after another
+pub reached-on : {i n s : ℕ} {w₀ w₁ w₂ : List ℕ} {r₀ r₁ r₂ : Registers} → Reached i s w₀ r₀ w₁ r₁ → Reached n (s + i) w₁ r₁ w₂ r₂
+    → Reached (i + n) s w₀ r₀ w₂ r₂
+reached-on {i} {n} {s} {w₀} {w₁} {w₂} {r₀} {r₁} first then =
+    let place : s + i + 16 ≡ s + 16 + i = omega arith in
+    let kept : r₁ ≡ roundsFrom i s w₂ r₀ = first .registers ∙ rw (then .words) (sym (rounds-grown n i s w₁ (s + i + 16) r₀ (omega arith))) in
+    record {
+      words = then .words ∙ rw (first .words, place) (grown-on n i w₀ (s + 16));
+      registers = then .registers ∙ rw kept (rounds-on n i s w₂ r₀);
+    }
+
 -- ---- a block
 
 pub load-more : (m : List ℕ) (at j : ℕ) (w : List ℕ) {x : ℕ} → j < length w → take j w ≡ wordsAt j m at → x ≡ beAt 4 m (at + 4 * j)
@@ -200,20 +211,15 @@ grown-past (suc n) w j h = rw (grown-past n w j h) (set-out w (j + n) (nextWord 
 pub four-past : (w : List ℕ) (j : ℕ) → length w ≤ j → w ≡ grown 4 w j
 four-past w j h = sym (grown-past 4 w j h)
 
--- the two runs of rounds make the compression function
-pub compress-of : (v : Registers) (block w w₁ w₂ : List ℕ) {early late : Registers} → length w ≡ 68 → take 16 w ≡ block
-    → w₁ ≡ grown 16 w 16 → early ≡ roundsFrom 16 0 w₁ v → w₂ ≡ grown 48 w₁ 32 → late ≡ roundsFrom 48 16 w₂ early
-    → xored late v ≡ compressed v block
+-- all rounds make the compression function
+pub compress-of : {v : Registers} {block w w′ : List ℕ} {r : Registers} → length w ≡ 68 → take 16 w ≡ block → Reached 64 0 w v w′ r
+    → xored r v ≡ compressed v block
 unfolding compressed
-compress-of v block w w₁ w₂ {early} {late} l b p f q m =
+compress-of {v} {block} {w} {w′} l b reached =
     let full : length (grown 52 w 16) ≤ 68 = rw (length-grown 52 w 16) (omega arith) in
-    let all : w₂ ≡ grown 52 w 16 =
-    q ∙ rw (p, grown-on 48 16 w 16, ← grown-on 12 52 w 16) (grown-past 12 (grown 52 w 16) 68 full) in
-    let words : w₂ ≡ expand 52 block =
-    sym (take-all 68 w₂ (rw all full)) ∙ rw (all, ← b) (grown-expands 52 w (omega arith)) in
-    let f′ : early ≡ roundsFrom 16 0 w₂ v = f ∙ rw q (sym (rounds-grown 48 16 0 w₁ 32 v (omega arith))) in
-    let r : late ≡ roundsFrom 64 0 w₂ v = m ∙ rw f′ (rounds-on 48 16 0 w₂ v) in
-    rw (rounds-from-zero 64 (expand 52 block) v, ← words, r)
+    let all : w′ ≡ grown 52 w 16 = reached .words ∙ rw (← grown-on 12 52 w 16) (grown-past 12 (grown 52 w 16) 68 full) in
+    let words : w′ ≡ expand 52 block = sym (take-all 68 w′ (rw all full)) ∙ rw (all, ← b) (grown-expands 52 w (omega arith)) in
+    rw (rounds-from-zero 64 (expand 52 block) v, ← words, reached .registers)
 
 pub reached-length : {i s : ℕ} {w₀ : List ℕ} {r₀ : Registers} {w : List ℕ} {r : Registers} → Reached i s w₀ r₀ w r → length w ≡ length w₀
 reached-length {i} {s} {w₀} reached = ap length (reached .words) ∙ length-grown i w₀ (s + 16)

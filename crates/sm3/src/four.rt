@@ -20,10 +20,10 @@ ghost use Rattle.sm3.specs.FourLaws.{laneOf, Grew, valueAt, Put, Stepped
 // W_j of message l from the words before it.
 fn next_word(w: &[u32], j: usize, l: usize) -> u32
     requires { ⌜ 16 ≤ j ⌝ }
-    requires { ⌜ j < 80 ⌝ }
+    requires { ⌜ j < 68 ⌝ }
     requires { ⌜ l < 4 ⌝ }
-    requires { ⌜ length (now w) ≡ 320 ⌝ }
-    ensures { λ r. ⌜ r ≡ nextWord (laneOf 80 l (now (w .entry))) j ⌝ }
+    requires { ⌜ length (now w) ≡ 272 ⌝ }
+    ensures { λ r. ⌜ r ≡ nextWord (laneOf 68 l (now (w .entry))) j ⌝ }
 {
     let first = w[4 * (j - 16) + l] ^ w[4 * (j - 9) + l] ^ rotate_left(w[4 * (j - 3) + l], 15);
     p1(first) ^ rotate_left(w[4 * (j - 13) + l], 7) ^ w[4 * (j - 6) + l]
@@ -32,21 +32,21 @@ fn next_word(w: &[u32], j: usize, l: usize) -> u32
 // Stores W_j of message l.
 fn grow(w: &mut [u32], j: usize, l: usize)
     requires { ⌜ 16 ≤ j ⌝ }
-    requires { ⌜ j < 80 ⌝ }
+    requires { ⌜ j < 68 ⌝ }
     requires { ⌜ l < 4 ⌝ }
-    requires { ⌜ length (now w) ≡ 320 ⌝ }
-    ensures { λ _. ⌜ now (w .exit) ≡ set (now (w .entry)) (4 * j + l) (nextWord (laneOf 80 l (now (w .entry))) j) ⌝ }
+    requires { ⌜ length (now w) ≡ 272 ⌝ }
+    ensures { λ _. ⌜ now (w .exit) ≡ set (now (w .entry)) (4 * j + l) (nextWord (laneOf 68 l (now (w .entry))) j) ⌝ }
 {
     let next = next_word(w, j, l);
     w[4 * j + l] = next;
 }
 
-// Stores W_j to W_j+3 of message l. There is room for more than W_67: what no round reads is stored too, so that no test is in the way.
+// Stores W_j to W_j+3 of message l.
 fn grow_four(w: &mut [u32], j: usize, l: usize)
     requires { ⌜ 16 ≤ j ⌝ }
-    requires { ⌜ j + 4 ≤ 80 ⌝ }
+    requires { ⌜ j + 4 ≤ 68 ⌝ }
     requires { ⌜ l < 4 ⌝ }
-    requires { ⌜ length (now w) ≡ 320 ⌝ }
+    requires { ⌜ length (now w) ≡ 272 ⌝ }
     ensures { λ _. ⌜ Grew l j (now (w .entry)) (now (w .exit)) ⌝ }
 {
     grow(w, j, l);
@@ -92,9 +92,9 @@ fn put_value(s: &mut [u32], l: usize, r: Registers)
 fn early_round(r: Registers, j: usize, l: usize, w: &[u32], t: &[u32]) -> Registers
     requires { ⌜ j < 16 ⌝ }
     requires { ⌜ l < 4 ⌝ }
-    requires { ⌜ length (now w) ≡ 320 ⌝ }
+    requires { ⌜ length (now w) ≡ 272 ⌝ }
     requires { ⌜ now t ≡ constants ⌝ }
-    ensures { λ q. ⌜ q ≡ round j (laneOf 80 l (now (w .entry))) r ⌝ }
+    ensures { λ q. ⌜ q ≡ round j (laneOf 68 l (now (w .entry))) r ⌝ }
 {
     let ff = parity(r.a, r.b, r.c);
     let gg = parity(r.e, r.f, r.g);
@@ -108,9 +108,9 @@ fn late_round(r: Registers, j: usize, l: usize, w: &[u32], t: &[u32]) -> Registe
     requires { ⌜ 16 ≤ j ⌝ }
     requires { ⌜ j < 64 ⌝ }
     requires { ⌜ l < 4 ⌝ }
-    requires { ⌜ length (now w) ≡ 320 ⌝ }
+    requires { ⌜ length (now w) ≡ 272 ⌝ }
     requires { ⌜ now t ≡ constants ⌝ }
-    ensures { λ q. ⌜ q ≡ round j (laneOf 80 l (now (w .entry))) r ⌝ }
+    ensures { λ q. ⌜ q ≡ round j (laneOf 68 l (now (w .entry))) r ⌝ }
 {
     let ff = majority(r.a, r.b, r.c);
     let gg = choice(r.e, r.f, r.g);
@@ -124,7 +124,7 @@ fn four_early(s: &mut [u32], w: &mut [u32], j: usize, l: usize, t: &[u32])
     requires { ⌜ j + 4 ≤ 16 ⌝ }
     requires { ⌜ l < 4 ⌝ }
     requires { ⌜ length (now s) ≡ 32 ⌝ }
-    requires { ⌜ length (now w) ≡ 320 ⌝ }
+    requires { ⌜ length (now w) ≡ 272 ⌝ }
     requires { ⌜ now t ≡ constants ⌝ }
     ensures { λ _. ⌜ Stepped l j (now (s .entry)) (now (w .entry)) (now (s .exit)) (now (w .exit)) ⌝ }
 {
@@ -137,13 +137,13 @@ fn four_early(s: &mut [u32], w: &mut [u32], j: usize, l: usize, t: &[u32])
     put_value(s, l, r4);
 }
 
-// Four of the rounds 16 to 63 of message l, and the words that go along.
+// Four of the rounds 16 to 51 of message l, and the words that go along.
 fn four_late(s: &mut [u32], w: &mut [u32], j: usize, l: usize, t: &[u32])
     requires { ⌜ 16 ≤ j ⌝ }
-    requires { ⌜ j + 4 ≤ 64 ⌝ }
+    requires { ⌜ j + 4 ≤ 52 ⌝ }
     requires { ⌜ l < 4 ⌝ }
     requires { ⌜ length (now s) ≡ 32 ⌝ }
-    requires { ⌜ length (now w) ≡ 320 ⌝ }
+    requires { ⌜ length (now w) ≡ 272 ⌝ }
     requires { ⌜ now t ≡ constants ⌝ }
     ensures { λ _. ⌜ Stepped l j (now (s .entry)) (now (w .entry)) (now (s .exit)) (now (w .exit)) ⌝ }
 {
@@ -156,11 +156,29 @@ fn four_late(s: &mut [u32], w: &mut [u32], j: usize, l: usize, t: &[u32])
     put_value(s, l, r4);
 }
 
+// Four of the rounds 52 to 63 of message l, whose words all stand there.
+fn four_last(s: &mut [u32], w: &[u32], j: usize, l: usize, t: &[u32])
+    requires { ⌜ 52 ≤ j ⌝ }
+    requires { ⌜ j + 4 ≤ 64 ⌝ }
+    requires { ⌜ l < 4 ⌝ }
+    requires { ⌜ length (now s) ≡ 32 ⌝ }
+    requires { ⌜ length (now w) ≡ 272 ⌝ }
+    requires { ⌜ now t ≡ constants ⌝ }
+    ensures { λ _. ⌜ Stepped l j (now (s .entry)) (now (w .entry)) (now (s .exit)) (now (w .entry)) ⌝ }
+{
+    let r = value_at(s, l);
+    let r1 = late_round(r, j, l, w, t);
+    let r2 = late_round(r1, j + 1, l, w, t);
+    let r3 = late_round(r2, j + 2, l, w, t);
+    let r4 = late_round(r3, j + 3, l, w, t);
+    put_value(s, l, r4);
+}
+
 // The same of all four messages.
 fn early_lanes(s: &mut [u32], w: &mut [u32], j: usize, t: &[u32])
     requires { ⌜ j + 4 ≤ 16 ⌝ }
     requires { ⌜ length (now s) ≡ 32 ⌝ }
-    requires { ⌜ length (now w) ≡ 320 ⌝ }
+    requires { ⌜ length (now w) ≡ 272 ⌝ }
     requires { ⌜ now t ≡ constants ⌝ }
     ensures { λ _. ⌜ Moved j (now (s .entry)) (now (w .entry)) (now (s .exit)) (now (w .exit)) ⌝ }
 {
@@ -173,9 +191,9 @@ fn early_lanes(s: &mut [u32], w: &mut [u32], j: usize, t: &[u32])
 
 fn late_lanes(s: &mut [u32], w: &mut [u32], j: usize, t: &[u32])
     requires { ⌜ 16 ≤ j ⌝ }
-    requires { ⌜ j + 4 ≤ 64 ⌝ }
+    requires { ⌜ j + 4 ≤ 52 ⌝ }
     requires { ⌜ length (now s) ≡ 32 ⌝ }
-    requires { ⌜ length (now w) ≡ 320 ⌝ }
+    requires { ⌜ length (now w) ≡ 272 ⌝ }
     requires { ⌜ now t ≡ constants ⌝ }
     ensures { λ _. ⌜ Moved j (now (s .entry)) (now (w .entry)) (now (s .exit)) (now (w .exit)) ⌝ }
 {
@@ -186,10 +204,25 @@ fn late_lanes(s: &mut [u32], w: &mut [u32], j: usize, t: &[u32])
     }
 }
 
+fn last_lanes(s: &mut [u32], w: &[u32], j: usize, t: &[u32])
+    requires { ⌜ 52 ≤ j ⌝ }
+    requires { ⌜ j + 4 ≤ 64 ⌝ }
+    requires { ⌜ length (now s) ≡ 32 ⌝ }
+    requires { ⌜ length (now w) ≡ 272 ⌝ }
+    requires { ⌜ now t ≡ constants ⌝ }
+    ensures { λ _. ⌜ Moved j (now (s .entry)) (now (w .entry)) (now (s .exit)) (now (w .entry)) ⌝ }
+{
+    let mut l = 0;
+    while l < 4 {
+        four_last(s, w, j, l, t);
+        l += 1;
+    }
+}
+
 // The rounds 0 to 15 of all four messages.
 pub(crate) fn early_rounds(s: &mut [u32], w: &mut [u32], t: &[u32])
     requires { ⌜ length (now s) ≡ 32 ⌝ }
-    requires { ⌜ length (now w) ≡ 320 ⌝ }
+    requires { ⌜ length (now w) ≡ 272 ⌝ }
     requires { ⌜ now t ≡ constants ⌝ }
     ensures { λ _. ⌜ AllReached 16 0 (now (s .entry)) (now (w .entry)) (now (s .exit)) (now (w .exit)) ⌝ }
 {
@@ -200,16 +233,30 @@ pub(crate) fn early_rounds(s: &mut [u32], w: &mut [u32], t: &[u32])
     }
 }
 
-// The rounds 16 to 63.
+// The rounds 16 to 51.
 pub(crate) fn late_rounds(s: &mut [u32], w: &mut [u32], t: &[u32])
     requires { ⌜ length (now s) ≡ 32 ⌝ }
-    requires { ⌜ length (now w) ≡ 320 ⌝ }
+    requires { ⌜ length (now w) ≡ 272 ⌝ }
     requires { ⌜ now t ≡ constants ⌝ }
-    ensures { λ _. ⌜ AllReached 48 16 (now (s .entry)) (now (w .entry)) (now (s .exit)) (now (w .exit)) ⌝ }
+    ensures { λ _. ⌜ AllReached 36 16 (now (s .entry)) (now (w .entry)) (now (s .exit)) (now (w .exit)) ⌝ }
 {
     let mut i = 0;
-    while i < 48 {
+    while i < 36 {
         late_lanes(s, w, 16 + i, t);
+        i += 4;
+    }
+}
+
+// The rounds 52 to 63.
+pub(crate) fn last_rounds(s: &mut [u32], w: &[u32], t: &[u32])
+    requires { ⌜ length (now s) ≡ 32 ⌝ }
+    requires { ⌜ length (now w) ≡ 272 ⌝ }
+    requires { ⌜ now t ≡ constants ⌝ }
+    ensures { λ _. ⌜ AllReached 12 52 (now (s .entry)) (now (w .entry)) (now (s .exit)) (now (w .entry)) ⌝ }
+{
+    let mut i = 0;
+    while i < 12 {
+        last_lanes(s, w, 52 + i, t);
         i += 4;
     }
 }
@@ -265,9 +312,9 @@ pub(crate) fn spread(v: Registers) -> [u32; 32]
 }
 
 // Puts the sixteen words of a block where those of message l stand.
-pub(crate) fn put_block(w: &mut [u32], l: usize, m: &[u8])
+pub fn put_block(w: &mut [u32], l: usize, m: &[u8])
     requires { ⌜ l < 4 ⌝ }
-    requires { ⌜ length (now w) ≡ 320 ⌝ }
+    requires { ⌜ length (now w) ≡ 272 ⌝ }
     requires { ⌜ 64 ≤ length (now m) ⌝ }
     ensures { λ _. ⌜ Laid l 16 (now (m .entry)) (now (w .entry)) (now (w .exit)) ⌝ }
 {

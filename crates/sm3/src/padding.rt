@@ -32,7 +32,7 @@ pub(crate) fn put_end(message: &[u8], blocks: usize, out: &mut [u8])
 
 // Pads the message in the first len bytes of m, where it lies, and answers how many blocks it has then. Behind it m has zeros, and
 // the length has two bytes.
-pub(crate) fn pad(m: &mut [u8], len: usize) -> usize
+pub fn pad(m: &mut [u8], len: usize) -> usize
     requires { ⌜ length (now m) ≡ 128 ⌝ }
     requires { ⌜ len < 120 ⌝ }
     requires { ⌜ drop len (now m) ≡ replicate (128 - len) 0 ⌝ }

@@ -1,14 +1,15 @@
 // The sum of the words of a hash without the carry, for the proved layers above: they require what those give.
 use crate::compress::iterate;
 use crate::four;
-use crate::padding::pad;
+pub use crate::four::put_block;
+pub use crate::padding::pad;
 use crate::start;
 use crate::table::constants;
 ghost use mathlib.Core.Path.{_≡_};
 ghost use Prim.Native.Nat.{_-_, _<_};
 ghost use lib.ListN.{length, take, drop, replicate};
 ghost use Rattle.sm3.specs.Sm3Laws.{wordTotal, lastValue};
-ghost use Rattle.sm3.specs.FourLaws.{Message, laneSums};
+ghost use Rattle.sm3.specs.FourLaws.{laneSums};
 
 // The sum for the message in the first len bytes of m, which has zeros behind it. The message is padded where it lies.
 pub fn hash_sum(m: &mut [u8], len: usize) -> u32
@@ -22,23 +23,9 @@ pub fn hash_sum(m: &mut [u8], len: usize) -> u32
     iterate(start(), m, blocks, &t).sum
 }
 
-// Four messages of at most 55 bytes go side by side: puts the words of message l where they stand in w. It lies in the first len bytes of
-// m, with zeros behind it, and is padded there.
-pub fn put_message(w: &mut [u32], l: usize, m: &mut [u8], len: usize)
-    requires { ⌜ l < 4 ⌝ }
-    requires { ⌜ length (now w) ≡ 320 ⌝ }
-    requires { ⌜ length (now m) ≡ 128 ⌝ }
-    requires { ⌜ len < 56 ⌝ }
-    requires { ⌜ drop len (now m) ≡ replicate (128 - len) 0 ⌝ }
-    ensures { λ _. ⌜ Message l (take len (now (m .entry))) (now (w .entry)) (now (w .exit)) ⌝ }
-{
-    pad(m, len);
-    four::put_block(w, l, m);
-}
-
-// The sums for the four messages.
+// The sums for four messages of one block, put side by side by `put_block`.
 pub fn four_sums(w: &mut [u32]) -> [u32; 4]
-    requires { ⌜ length (now w) ≡ 320 ⌝ }
+    requires { ⌜ length (now w) ≡ 272 ⌝ }
     ensures { λ r. ⌜ r ≡ laneSums (now (w .entry)) ⌝ }
 {
     let t = constants();
@@ -46,6 +33,7 @@ pub fn four_sums(w: &mut [u32]) -> [u32; 4]
     let mut s = four::spread(v);
     four::early_rounds(&mut s, w, &t);
     four::late_rounds(&mut s, w, &t);
+    four::last_rounds(&mut s, w, &t);
     [
         four::sum_at(&s, 0, v),
         four::sum_at(&s, 1, v),

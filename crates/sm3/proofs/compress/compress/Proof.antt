@@ -1,7 +1,6 @@
 use borrow.Author.Needs.{needs}
 use mathlib.Core.Path.{_∙_}
-use Rattle.sm3.specs.Sm3.{wordsAt}
-use Rattle.sm3.specs.Sm3Laws.{compress-of}
+use Rattle.sm3.specs.Sm3Laws.{compress-of, reached-on}
 use Rattle.sm3.proofs.compress.compress.Statement.{statement}
 use Rattle.sm3.proofs.compress.compress.Tie as tie
 
@@ -25,13 +24,10 @@ xored-requires c κs = search needs
 
 returns : tie.Need-returns
 returns c = c .xored .ensures
-    ∙ compress-of (c .before .before .before .before .before .before .before .before .before .before .args .v) (wordsAt 16 (c .before .before .before .before .before .before .before .before .before .before .args .m .now) (c .before .before .before .before .before .before .before .before .before .before .args .at)) (c .before .before .before .before .before .before .before .load .result) (c .before .before .before .before .before .early-rounds .last .1 .0) (c .before .before .late-rounds .last .1 .0)
-    (c .before .before .before .before .before .before .before .load .ensures .0)
-    (c .before .before .before .before .before .before .before .load .ensures .1)
-    (c .before .before .before .before .before .early-rounds .ensures .0)
-    (c .before .before .before .before .before .early-rounds .ensures .1)
-    (c .before .before .late-rounds .ensures .0)
-    (c .before .before .late-rounds .ensures .1)
+    ∙ compress-of (c .before .before .before .before .before .before .before .load .ensures .0) (c .before .before .before .before .before .before .before .load .ensures .1)
+    (reached-on
+    (record { words = c .before .before .before .before .before .early-rounds .ensures .0; registers = c .before .before .before .before .before .early-rounds .ensures .1 })
+    (record { words = c .before .before .late-rounds .ensures .0; registers = c .before .before .late-rounds .ensures .1 }))
 
 pub compress-spec : {M : Type 1} → statement M
 compress-spec =

@@ -9,7 +9,7 @@ use Rattle.sm3.proofs.four.early_rounds.Statement.{statement}
 use Rattle.sm3.proofs.four.early_rounds.Tie as tie
 
 abbrev Inv-loop : tie.InvT-loop
-Inv-loop s₀ w₀ t i₀ s w i = (i ≤ 16) × ((i % 4 ≡ 0) × ((length s ≡ 32) × ((length w ≡ 320) × AllReached i 0 s₀ w₀ s w)))
+Inv-loop s₀ w₀ t i₀ s w i = (i ≤ 16) × ((i % 4 ≡ 0) × ((length s ≡ 32) × ((length w ≡ 272) × AllReached i 0 s₀ w₀ s w)))
 
 abbrev μ-loop : tie.MeasureT-loop
 μ-loop s₀ w₀ t i₀ s w i = 16 - i

@@ -8,7 +8,7 @@ use Rattle.sm3.proofs.four.late_lanes.Statement.{statement}
 use Rattle.sm3.proofs.four.late_lanes.Tie as tie
 
 abbrev Inv-loop : tie.InvT-loop
-Inv-loop s₀ w₀ j t l₀ s w l = (l ≤ 4) × ((length s ≡ 32) × ((length w ≡ 320) × Part l j s₀ w₀ s w))
+Inv-loop s₀ w₀ j t l₀ s w l = (l ≤ 4) × ((length s ≡ 32) × ((length w ≡ 272) × Part l j s₀ w₀ s w))
 
 abbrev μ-loop : tie.MeasureT-loop
 μ-loop s₀ w₀ j t l₀ s w l = 4 - l

@@ -8,10 +8,10 @@ use Rattle.sm3.proofs.four.late_rounds.Statement.{statement}
 use Rattle.sm3.proofs.four.late_rounds.Tie as tie
 
 abbrev Inv-loop : tie.InvT-loop
-Inv-loop s₀ w₀ t i₀ s w i = (i ≤ 48) × ((i % 4 ≡ 0) × ((length s ≡ 32) × ((length w ≡ 320) × AllReached i 16 s₀ w₀ s w)))
+Inv-loop s₀ w₀ t i₀ s w i = (i ≤ 36) × ((i % 4 ≡ 0) × ((length s ≡ 32) × ((length w ≡ 272) × AllReached i 16 s₀ w₀ s w)))
 
 abbrev μ-loop : tie.MeasureT-loop
-μ-loop s₀ w₀ t i₀ s w i = 48 - i
+μ-loop s₀ w₀ t i₀ s w i = 36 - i
 
 loop-holds : tie.Need-loop-holds Inv-loop μ-loop
 loop-holds c = (search needs, (search needs, (c .before .before .before .pre .0, (c .before .before .before .pre .1 .0, all-none 16 (c .before .before .before .args .s .now) (c .before .before .before .args .w .now)))))
@@ -38,7 +38,7 @@ same-length-2 : tie.Need-same-length-2 Inv-loop μ-loop
 same-length-2 c = c .before .loop .inv .1 .1 .1 .0 ∙ sym (c .before .before .before .before .before .pre .1 .0)
 
 returns : tie.Need-returns Inv-loop μ-loop
-returns c = let e : c .before .loop .i ≡ 48 = omega arith in rw e at (c .before .loop .inv .1 .1 .1 .1)
+returns c = let e : c .before .loop .i ≡ 36 = omega arith in rw e at (c .before .loop .inv .1 .1 .1 .1)
 
 pub late-rounds-spec : {M : Type 1} → statement M
 late-rounds-spec =

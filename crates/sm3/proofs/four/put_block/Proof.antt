@@ -8,7 +8,7 @@ use Rattle.sm3.proofs.four.put_block.Statement.{statement}
 use Rattle.sm3.proofs.four.put_block.Tie as tie
 
 abbrev Inv-loop : tie.InvT-loop
-Inv-loop w₀ l m j₀ w j = (j ≤ 16) × ((length w ≡ 320) × Laid l j m w₀ w)
+Inv-loop w₀ l m j₀ w j = (j ≤ 16) × ((length w ≡ 272) × Laid l j m w₀ w)
 
 abbrev μ-loop : tie.MeasureT-loop
 μ-loop w₀ l m j₀ w j = 16 - j

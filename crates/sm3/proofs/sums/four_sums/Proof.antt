@@ -1,6 +1,5 @@
 use mathlib.Core.Path.{_∙_}
-use native.Mathlib.Omega.{arith}
-use Rattle.sm3.specs.FourLaws.{lane-sum, all-sums}
+use Rattle.sm3.specs.FourLaws.{all-sums}
 use borrow.Author.Needs.{needs}
 use Rattle.sm3.proofs.sums.four_sums.Statement.{statement}
 use Rattle.sm3.proofs.sums.four_sums.Tie as tie
@@ -30,7 +29,16 @@ slice-aggregate-late-rounds-2 : tie.Need-slice-aggregate-late-rounds-2
 slice-aggregate-late-rounds-2 c = search needs
 
 late-rounds-requires : tie.Need-late-rounds-requires
-late-rounds-requires c κs = (c .before .before .before .before .before .before .early-rounds .kept .0 ∙ c .before .before .before .before .before .before .before .before .before .before .spread .ensures .0, (c .before .before .before .before .before .before .early-rounds .kept .1 .0 ∙ c .before .before .before .before .before .before .before .before .before .before .before .before .before .before .pre, c .before .before .before .before .before .before .before .before .before .before .before .before .constants .ensures))
+late-rounds-requires c κs = let early = c .before .before .before .before .before .before .early-rounds in (early .kept .0 ∙ c .before .before .before .before .before .before .before .before .before .before .spread .ensures .0, (early .kept .1 .0 ∙ c .before .before .before .before .before .before .before .before .before .before .before .before .before .before .pre, c .before .before .before .before .before .before .before .before .before .before .before .before .constants .ensures))
+
+slice-aggregate-last-rounds : tie.Need-slice-aggregate-last-rounds
+slice-aggregate-last-rounds c = search needs
+
+slice-aggregate-last-rounds-2 : tie.Need-slice-aggregate-last-rounds-2
+slice-aggregate-last-rounds-2 c = search needs
+
+last-rounds-requires : tie.Need-last-rounds-requires
+last-rounds-requires c κs = let early = c .before .before .before .before .before .before .before .before .before .before .before .before .before .early-rounds in let late = c .before .before .before .before .before .before .late-rounds in (late .kept .0 ∙ early .kept .0 ∙ c .before .before .before .before .before .before .before .before .before .before .before .before .before .before .before .before .before .spread .ensures .0, (late .kept .1 .0 ∙ early .kept .1 .0 ∙ c .before .before .before .before .before .before .before .before .before .before .before .before .before .before .before .before .before .before .before .before .before .pre, c .before .before .before .before .before .before .before .before .before .before .before .before .before .before .before .before .before .before .before .constants .ensures))
 
 slice-aggregate-sum-at : tie.Need-slice-aggregate-sum-at
 slice-aggregate-sum-at c = search needs
@@ -60,7 +68,7 @@ same-length : tie.Need-same-length
 same-length c = search needs
 
 returns : tie.Need-returns
-returns c = all-sums (c .before .before .before .before .before .before .before .before .before .before .before .before .before .before .before .before .before .before .before .before .before .before .before .before .before .before .args .w .now) (lane-sum 0 _ _ _ _ _ _ _ (omega arith) (c .before .before .before .before .before .before .before .before .before .before .before .before .before .before .before .before .before .before .before .before .before .before .before .start .ensures) (c .before .before .before .before .before .before .before .before .before .before .before .before .before .before .before .before .before .before .before .before .before .before .spread .ensures .1) (c .before .before .before .before .before .before .before .before .before .before .before .before .before .before .before .before .before .before .early-rounds .ensures) (c .before .before .before .before .before .before .before .before .before .before .before .late-rounds .ensures) (c .before .before .before .before .before .before .sum-at .ensures)) (lane-sum 1 _ _ _ _ _ _ _ (omega arith) (c .before .before .before .before .before .before .before .before .before .before .before .before .before .before .before .before .before .before .before .before .before .before .before .start .ensures) (c .before .before .before .before .before .before .before .before .before .before .before .before .before .before .before .before .before .before .before .before .before .before .spread .ensures .1) (c .before .before .before .before .before .before .before .before .before .before .before .before .before .before .before .before .before .before .early-rounds .ensures) (c .before .before .before .before .before .before .before .before .before .before .before .late-rounds .ensures) (c .before .before .before .before .sum-at2 .ensures)) (lane-sum 2 _ _ _ _ _ _ _ (omega arith) (c .before .before .before .before .before .before .before .before .before .before .before .before .before .before .before .before .before .before .before .before .before .before .before .start .ensures) (c .before .before .before .before .before .before .before .before .before .before .before .before .before .before .before .before .before .before .before .before .before .before .spread .ensures .1) (c .before .before .before .before .before .before .before .before .before .before .before .before .before .before .before .before .before .before .early-rounds .ensures) (c .before .before .before .before .before .before .before .before .before .before .before .late-rounds .ensures) (c .before .before .sum-at3 .ensures)) (lane-sum 3 _ _ _ _ _ _ _ (omega arith) (c .before .before .before .before .before .before .before .before .before .before .before .before .before .before .before .before .before .before .before .before .before .before .before .start .ensures) (c .before .before .before .before .before .before .before .before .before .before .before .before .before .before .before .before .before .before .before .before .before .before .spread .ensures .1) (c .before .before .before .before .before .before .before .before .before .before .before .before .before .before .before .before .before .before .early-rounds .ensures) (c .before .before .before .before .before .before .before .before .before .before .before .late-rounds .ensures) (c .sum-at4 .ensures))
+returns c = all-sums _ _ _ _ _ _ _ _ _ (c .before .before .before .before .before .before .before .before .before .before .before .before .before .before .before .before .before .before .before .before .before .before .before .before .before .before .before .before .start .ensures) (c .before .before .before .before .before .before .before .before .before .before .before .before .before .before .before .before .before .before .before .before .before .before .before .before .before .before .before .spread .ensures .1) (c .before .before .before .before .before .before .before .before .before .before .before .before .before .before .before .before .before .before .before .before .before .before .before .early-rounds .ensures) (c .before .before .before .before .before .before .before .before .before .before .before .before .before .before .before .before .late-rounds .ensures) (c .before .before .before .before .before .before .before .before .before .last-rounds .ensures) (c .before .before .before .before .before .before .sum-at .ensures) (c .before .before .before .before .sum-at2 .ensures) (c .before .before .sum-at3 .ensures) (c .sum-at4 .ensures)
 
 pub four-sums-spec : {M : Type 1} → statement M
 four-sums-spec =
@@ -75,6 +83,9 @@ four-sums-spec =
     slice-aggregate-late-rounds
     slice-aggregate-late-rounds-2
     late-rounds-requires
+    slice-aggregate-last-rounds
+    slice-aggregate-last-rounds-2
+    last-rounds-requires
     slice-aggregate-sum-at
     sum-at-requires
     slice-aggregate-sum-at-2
