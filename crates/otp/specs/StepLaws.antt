@@ -11,7 +11,7 @@ use Rattle.words.specs.PutLaws.{put-nothing}
 use Rattle.sm3.specs.Sm3.{sm3Of, padded, wordsAt}
 use Rattle.sm3.specs.Sm3Laws.{wordTotal}
 use Rattle.sm3.specs.PaddingLaws.{lastBlocks, last-blocks-one}
-use Rattle.sm3.specs.FourLaws.{laneOf, laneSum, laneSums, Laid, Message, message-of, one-block}
+use Rattle.hash_lanes.specs.FourLaws.{laneOf, laneSum, laneSums, Laid, Message, message-of, one-block}
 use Rattle.otp.specs.declared.Factor.{Factor}
 use Rattle.otp.specs.Password.{factorBytes, idOf, filled, cut}
 use Rattle.otp.specs.StepCuts.{timeAt, countAt, stepId, hashedCut, cutsFrom}

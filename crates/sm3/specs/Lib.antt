@@ -2,5 +2,4 @@
 pub mod Sm3
 pub mod PaddingLaws
 pub mod Sm3Laws
-pub mod FourLaws
 pub mod Sm3Examples

@@ -23,7 +23,7 @@ pub(crate) fn load(m: &[u8], at: usize) -> [u32; 68]
 }
 
 // The permutation P1, in the form that takes fewer copies of the word.
-pub(crate) fn p1(x: u32) -> u32
+pub fn p1(x: u32) -> u32
     ensures { λ r. ⌜ r ≡ p1 x ⌝ }
 {
     x ^ rotate_left(x ^ rotate_left(x, 8), 15)

@@ -46,7 +46,7 @@ fn late_rounds(v: Registers, w: &mut [u32], t: &[u32]) -> Registers
     r
 }
 
-pub(crate) fn xored(r: Registers, v: Registers) -> Registers
+pub fn xored(r: Registers, v: Registers) -> Registers
     ensures { λ q. ⌜ q ≡ xored r v ⌝ }
 {
     Registers {
@@ -74,7 +74,7 @@ fn compress(v: Registers, m: &[u8], at: usize, t: &[u32]) -> Registers
 }
 
 // The sum of the words without the carry.
-pub(crate) fn word_sum(r: Registers) -> u32
+pub fn word_sum(r: Registers) -> u32
     ensures { λ s. ⌜ s ≡ wordTotal r ⌝ }
 {
     let left = add(add(r.a, r.b), add(r.c, r.d));

@@ -1,11 +1,10 @@
 // The hash SM3 (GB/T 32905-2016).
-mod block;
-mod compress;
-mod four;
+pub mod block;
+pub mod compress;
 mod padding;
-mod round;
+pub mod round;
 pub mod sums;
-mod table;
+pub mod table;
 
 use compress::iterate;
 use words::bytes::put_be;
@@ -33,7 +32,7 @@ pub struct Hash {
 }
 
 // The initial value (4.1).
-fn start() -> Registers
+pub fn start() -> Registers
     ensures { λ r. ⌜ r ≡ iv ⌝ }
 {
     Registers {

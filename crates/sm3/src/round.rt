@@ -9,21 +9,21 @@ ghost use Rattle.sm3.specs.Sm3.{parity, majority, choice, p0, roundWith,
 ghost use Rattle.sm3.specs.Sm3Laws.{constants, fourRounds};
 
 // FF and GG of the rounds 0 to 15.
-pub(crate) fn parity(x: u32, y: u32, z: u32) -> u32
+pub fn parity(x: u32, y: u32, z: u32) -> u32
     ensures { λ r. ⌜ r ≡ parity x y z ⌝ }
 {
     x ^ y ^ z
 }
 
 // FF of the rounds 16 to 63.
-pub(crate) fn majority(x: u32, y: u32, z: u32) -> u32
+pub fn majority(x: u32, y: u32, z: u32) -> u32
     ensures { λ r. ⌜ r ≡ majority x y z ⌝ }
 {
     (x & y) | (x & z) | (y & z)
 }
 
 // GG of the rounds 16 to 63, in the form that takes one operation less.
-pub(crate) fn choice(x: u32, y: u32, z: u32) -> u32
+pub fn choice(x: u32, y: u32, z: u32) -> u32
     ensures { λ r. ⌜ r ≡ choice x y z ⌝ }
 {
     ((y ^ z) & x) ^ z
@@ -37,7 +37,7 @@ fn p0(x: u32) -> u32
 }
 
 // The round, with what FF and GG gave, the constant t, W_j and W'_j.
-pub(crate) fn round_with(r: Registers, ff: u32, gg: u32, t: u32, w: u32, v: u32) -> Registers
+pub fn round_with(r: Registers, ff: u32, gg: u32, t: u32, w: u32, v: u32) -> Registers
     ensures { λ q. ⌜ q ≡ roundWith ff gg t w v r ⌝ }
 {
     let rotated = rotate_left(r.a, 12);

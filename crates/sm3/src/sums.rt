@@ -1,7 +1,5 @@
 // The sum of the words of a hash without the carry, for the proved layers above: they require what those give.
 use crate::compress::iterate;
-use crate::four;
-pub use crate::four::put_block;
 pub use crate::padding::pad;
 use crate::start;
 use crate::table::constants;
@@ -9,7 +7,6 @@ ghost use mathlib.Core.Path.{_≡_};
 ghost use Prim.Native.Nat.{_-_, _<_};
 ghost use lib.ListN.{length, take, drop, replicate};
 ghost use Rattle.sm3.specs.Sm3Laws.{wordTotal, lastValue};
-ghost use Rattle.sm3.specs.FourLaws.{laneSums};
 
 // The sum for the message in the first len bytes of m, which has zeros behind it. The message is padded where it lies.
 pub fn hash_sum(m: &mut [u8], len: usize) -> u32
@@ -21,23 +18,4 @@ pub fn hash_sum(m: &mut [u8], len: usize) -> u32
     let t = constants();
     let blocks = pad(m, len);
     iterate(start(), m, blocks, &t).sum
-}
-
-// The sums for four messages of one block, put side by side by `put_block`.
-pub fn four_sums(w: &mut [u32]) -> [u32; 4]
-    requires { ⌜ length (now w) ≡ 272 ⌝ }
-    ensures { λ r. ⌜ r ≡ laneSums (now (w .entry)) ⌝ }
-{
-    let t = constants();
-    let v = start();
-    let mut s = four::spread(v);
-    four::early_rounds(&mut s, w, &t);
-    four::late_rounds(&mut s, w, &t);
-    four::last_rounds(&mut s, w, &t);
-    [
-        four::sum_at(&s, 0, v),
-        four::sum_at(&s, 1, v),
-        four::sum_at(&s, 2, v),
-        four::sum_at(&s, 3, v),
-    ]
 }

@@ -69,7 +69,7 @@ const CONSTANTS: [u32; 64] = [
     0x3d43cec5,
 ];
 
-pub(crate) fn constants() -> [u32; 64]
+pub fn constants() -> [u32; 64]
     ensures { λ r. ⌜ r ≡ constants ⌝ }
 {
     CONSTANTS

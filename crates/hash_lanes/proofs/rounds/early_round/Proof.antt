@@ -1,0 +1,72 @@
+use borrow.Author.Needs.{needs}
+use mathlib.Core.Path.{_∙_}
+use native.Mathlib.Omega.{arith}
+use Rattle.sm3.specs.Sm3Laws.{ff-early, gg-early, table-length}
+use Rattle.hash_lanes.specs.FourLaws.{round-lane}
+use Rattle.hash_lanes.proofs.rounds.early_round.Statement.{statement}
+use Rattle.hash_lanes.proofs.rounds.early_round.Tie as tie
+
+parity-requires : tie.Need-parity-requires
+parity-requires c κs = search needs
+
+parity-requires-2 : tie.Need-parity-requires-2
+parity-requires-2 c κs = search needs
+
+mul-word : tie.Need-mul-word
+mul-word c = search needs
+
+add-word : tie.Need-add-word
+add-word c = search needs
+
+mul-word-2 : tie.Need-mul-word-2
+mul-word-2 c = search needs
+
+shared-slice-read-word : tie.Need-shared-slice-read-word
+shared-slice-read-word c = search needs
+
+add-ahead : tie.Need-add-ahead
+add-ahead c = search needs
+
+mul-ahead : tie.Need-mul-ahead
+mul-ahead c = search needs
+
+add-ahead-2 : tie.Need-add-ahead-2
+add-ahead-2 c = search needs
+
+mul-ahead-2 : tie.Need-mul-ahead-2
+mul-ahead-2 c = search needs
+
+shared-slice-read-ahead : tie.Need-shared-slice-read-ahead
+shared-slice-read-ahead c = search needs
+
+mul-round-with : tie.Need-mul-round-with
+mul-round-with c = search needs
+
+shared-slice-read-round-with : tie.Need-shared-slice-read-round-with
+shared-slice-read-round-with c = let e = table-length (c .before .before .before .before .before .before .before .pre .1 .1 .1) in omega arith
+
+round-with-requires : tie.Need-round-with-requires
+round-with-requires c κs = search needs
+
+returns : tie.Need-returns
+returns c = round-lane (c .before .before .before .before .before .before .before .before .args .j) (c .before .before .before .before .before .before .before .before .args .l) (c .before .before .before .before .before .before .before .before .args .w .now) (c .before .before .before .before .before .before .before .before .args .t .now) (c .before .before .before .before .before .before .before .before .args .r) (omega arith) (c .before .before .before .before .before .before .before .before .pre .1 .1 .1) (c .before .before .before .before .before .parity .ensures ∙ ff-early (c .before .before .before .before .before .before .before .before .args .j) (c .before .before .before .before .before .before .before .before .args .r .a) (c .before .before .before .before .before .before .before .before .args .r .b) (c .before .before .before .before .before .before .before .before .args .r .c) (c .before .before .before .before .before .before .before .before .pre .0)) (c .before .before .before .before .parity2 .ensures ∙ gg-early (c .before .before .before .before .before .before .before .before .args .j) (c .before .before .before .before .before .before .before .before .args .r .e) (c .before .before .before .before .before .before .before .before .args .r .f) (c .before .before .before .before .before .before .before .before .args .r .g) (c .before .before .before .before .before .before .before .before .pre .0)) (c .round-with .ensures)
+
+pub early-round-spec : {M : Type 1} → statement M
+early-round-spec =
+    tie.close
+    (tie.spec
+    parity-requires
+    parity-requires-2
+    mul-word
+    add-word
+    mul-word-2
+    shared-slice-read-word
+    add-ahead
+    mul-ahead
+    add-ahead-2
+    mul-ahead-2
+    shared-slice-read-ahead
+    mul-round-with
+    shared-slice-read-round-with
+    round-with-requires
+    returns)

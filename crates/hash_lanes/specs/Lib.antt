@@ -1,0 +1,2 @@
+-- Four SM3 hashes side by side.
+pub mod FourLaws
