@@ -8,8 +8,8 @@ use mathlib.Core.Option.{Option, none, some}
 use native.Mathlib.Nat.{add-zero, mod-lt, zero-lt-suc}
 use native.Mathlib.Numerals.{add-one}
 use native.Mathlib.Omega.{arith}
-use borrow.Author.Tests.{eq-eqb, ne-eqb, eqb-true, eqb-false}
-use lib.Dec.{eqb}
+use borrow.Author.Tests.{eq-eqb, ne-eqb, eqb-true, eqb-false, le-leb, lt-leb}
+use lib.Dec.{eqb, leb}
 use lib.ListN.{length, getD, take, drop, length-drop}
 use lib.Seq.{take-all}
 use Rattle.words.specs.ListsLaws.{by-test, and-true}
@@ -33,7 +33,7 @@ use Rattle.window.specs.CheckLaws.{sweep, order, clash}
 use Rattle.window.specs.PasswordAt.{passwordAt, hasPassword}
 use Rattle.window.specs.PasswordAtLaws.{matchesAt, countsRight}
 use Rattle.window.specs.SearchLaws.{foundOf, sweep-same}
-use Rattle.window.specs.Lanes.{goalOf, aheadBy, hits, cutAt, laneTest, listTest, priorOf, Prior, partOf, width}
+use Rattle.window.specs.Lanes.{goalOf, aheadBy, hits, cutAt, laneTest, listTest, priorOf, Prior, partOf, hashedWidth, keyedWidth, width}
 
 -- ---- numbers
 
@@ -256,6 +256,48 @@ part-is goal ahead before cuts s end ep ef el =
     let w : take (length cuts - ahead) (drop ahead cuts) ≡ drop ahead cuts = take-all (length cuts - ahead) (drop ahead cuts) (omega (arith, l)) in
     rw (ef, el, w, l, ep)
 
+-- the cuts that are made are as many as the width says
+pub part-cuts : (goal : Goal) (ahead before s end : ℕ) {w n : ℕ} (cutOf : ℕ → ℕ) {cuts : List ℕ} {r : Part} → w ≡ n → cuts ≡ cutsFrom cutOf n (s - ahead)
+    → r ≡ partOf goal ahead before cuts s end → r ≡ partOf goal ahead before (cutsFrom cutOf w (s - ahead)) s end
+part-cuts goal ahead before s end cutOf ew ec er = rw ew (er ∙ ap (λ (l : List ℕ). partOf goal ahead before l s end) ec)
+
+pub one-cut : (cutOf : ℕ → ℕ) (s : ℕ) {x : ℕ} → x ≡ cutOf s → x ∷ [] ≡ cutsFrom cutOf 1 s
+unfolding cutsFrom
+one-cut cutOf s e = rw e
+
+-- ---- widths
+
+module _ (left : ℕ) where
+  pub hashed-one : left ≡ 1 → hashedWidth left ≡ 1
+  unfolding hashedWidth
+  hashed-one e = rw (eq-eqb left 1 e)
+
+  pub hashed-four : (left ≡ 1 → ⊥) → hashedWidth left ≡ 4
+  unfolding hashedWidth
+  hashed-four n = rw (ne-eqb left 1 n)
+
+  pub keyed-three : left ≤ 3 → keyedWidth left ≡ 3
+  unfolding keyedWidth
+  keyed-three l = rw (le-leb left 3 l)
+
+  pub keyed-five : 3 < left → keyedWidth left ≡ 5
+  unfolding keyedWidth
+  keyed-five l = rw (lt-leb left 3 l)
+
+  keyed-most : (3 ≤ keyedWidth left) × (keyedWidth left ≤ 5)
+  unfolding keyedWidth
+  keyed-most = by-test (leb left 3) (λ t. rw t (omega arith, omega arith)) (λ t. rw t (omega arith, omega arith))
+
+-- a part goes on by at least a step
+pub width-room : (algorithm ahead s end : ℕ) → ahead ≤ 1 → ahead ≤ s → s < end → ahead < width algorithm (end - (s - ahead))
+width-room algorithm ahead s end la ls h =
+    let left = end - (s - ahead) in
+    by-test (eqb algorithm algorithmSm3)
+    (λ t. rw t (by-test (eqb left 1)
+    (λ u. let e = eqb-true left 1 u in let w = hashed-one left e in omega arith)
+    (λ u. let w = hashed-four left (eqb-false left 1 u) in omega arith)))
+    (λ t. let w = keyed-most left in rw t (omega arith))
+
 -- ---- the cuts by either cipher
 
 module _ (rule : Rule) (key : List ℕ) {timed : Bool} (et : timed ≡ eqb (rule .kind) timeToken) where
@@ -275,32 +317,17 @@ module _ (rule : Rule) (key : List ℕ) {timed : Bool} (et : timed ≡ eqb (rule
         let e = same-cuts (cutBy keys timed) (cutAt rule key) n (s - ahead) (2 ^ 64) (omega arith) (λ x l. keyed-cut-is x a ek l) in
         er ∙ ap (λ (l : List ℕ). partOf goal ahead before l s end) (ec ∙ e)
 
-    pub next-keyed : {keys cuts : List ℕ} → (rule .algorithm ≡ algorithmSm3 → ⊥) → keys ≡ prepared 4 key → s ≤ 2 ^ 63
-        → cuts ≡ cutsFrom (cutBy keys timed) 5 (s - ahead) → r ≡ partOf goal ahead before cuts s end
+    pub next-keyed : {keys : List ℕ} → (rule .algorithm ≡ algorithmSm3 → ⊥) → keys ≡ prepared 4 key → s ≤ 2 ^ 63
+        → r ≡ partOf goal ahead before (cutsFrom (cutBy keys timed) (keyedWidth (end - (s - ahead))) (s - ahead)) s end
         → r ≡ partOf goal ahead before (cutsFrom (cutAt rule key) (width (rule .algorithm) (end - (s - ahead))) (s - ahead)) s end
-    unfolding width
-    next-keyed a ek h ec er = rw (ne-eqb (rule .algorithm) algorithmSm3 a) (keyed-part 5 a ek (omega arith) ec er)
+    next-keyed a ek h er =
+        let w = keyed-most (end - (s - ahead)) in
+        rw (ne-eqb (rule .algorithm) algorithmSm3 a) (keyed-part (keyedWidth (end - (s - ahead))) a ek (omega arith) refl er)
 
-    pub next-alone : {x : ℕ} → rule .algorithm ≡ algorithmSm3 → end - (s - ahead) ≡ 1 → x ≡ hashedCut key timed (s - ahead) → r ≡ partOf goal ahead before (x ∷ []) s end
+    pub next-hashed : rule .algorithm ≡ algorithmSm3
+        → r ≡ partOf goal ahead before (cutsFrom (hashedCut key timed) (hashedWidth (end - (s - ahead))) (s - ahead)) s end
         → r ≡ partOf goal ahead before (cutsFrom (cutAt rule key) (width (rule .algorithm) (end - (s - ahead))) (s - ahead)) s end
-    unfolding width cutsFrom
-    next-alone a one ex er =
-        rw (eq-eqb (rule .algorithm) algorithmSm3 a, eq-eqb (end - (s - ahead)) 1 one) (er ∙ ap (λ (y : ℕ). partOf goal ahead before (y ∷ []) s end) (ex ∙ hashed-cut-is (s - ahead) a))
-
-    pub next-four : {cuts : List ℕ} → rule .algorithm ≡ algorithmSm3 → (end - (s - ahead) ≡ 1 → ⊥) → cuts ≡ cutsFrom (hashedCut key timed) 4 (s - ahead)
-        → r ≡ partOf goal ahead before cuts s end
-        → r ≡ partOf goal ahead before (cutsFrom (cutAt rule key) (width (rule .algorithm) (end - (s - ahead))) (s - ahead)) s end
-    unfolding width
-    next-four a more ec er =
-        let e = same-cuts (hashedCut key timed) (cutAt rule key) 4 (s - ahead) (s - ahead + 4) (omega arith) (λ x l. hashed-cut-is x a) in
-        rw (eq-eqb (rule .algorithm) algorithmSm3 a, ne-eqb (end - (s - ahead)) 1 more) (er ∙ ap (λ (l : List ℕ). partOf goal ahead before l s end) (ec ∙ e))
-
--- a part goes on by at least a step, and by no more than five
-pub width-room : (algorithm ahead s end : ℕ) → ahead ≤ 1 → ahead ≤ s → s < end → (ahead < width algorithm (end - (s - ahead))) × (width algorithm (end - (s - ahead)) ≤ 5)
-unfolding width
-width-room algorithm ahead s end la ls h =
-    by-test (eqb algorithm algorithmSm3)
-    (λ t. by-test (eqb (end - (s - ahead)) 1)
-    (λ u. let e = eqb-true (end - (s - ahead)) 1 u in rw (t, u) (omega arith, omega arith))
-    (λ u. rw (t, u) (omega arith, omega arith)))
-    (λ t. rw t (omega arith, omega arith))
+    next-hashed a er =
+        let n = hashedWidth (end - (s - ahead)) in
+        let e = same-cuts (hashedCut key timed) (cutAt rule key) n (s - ahead) (s - ahead + n) (omega arith) (λ x l. hashed-cut-is x a) in
+        rw (eq-eqb (rule .algorithm) algorithmSm3 a) (er ∙ ap (λ (l : List ℕ). partOf goal ahead before l s end) e)

@@ -4,6 +4,7 @@ use crate::Step;
 use crate::TIME_TOKEN;
 use crate::range::smaller;
 use crate::search::Found;
+use otp::cuts::few_cuts;
 use otp::cuts::first_cuts;
 use otp::cuts::next_cuts;
 use otp::number::number_of;
@@ -13,10 +14,10 @@ use otp::steps::hashed_cuts;
 ghost use mathlib.Core.Path.{_≡_};
 ghost use Prim.Native.Nat.{_+_, _-_, _^_, _≤_, _<_, min};
 ghost use lib.ListN.{length};
-ghost use Rattle.otp.specs.StepCuts.{cutsFrom};
+ghost use Rattle.otp.specs.StepCuts.{hashedCut, cutBy, cutsFrom};
 ghost use Rattle.window.specs.CheckLaws.{sweep};
 ghost use Rattle.window.specs.SearchLaws.{foundOf};
-ghost use Rattle.window.specs.Lanes.{goalOf, aheadBy, hits, cutAt, laneTest, listTest, priorOf, Prior, partOf, width, Keyed};
+ghost use Rattle.window.specs.Lanes.{goalOf, aheadBy, hits, cutAt, laneTest, listTest, priorOf, Prior, partOf, hashedWidth, keyedWidth, width, Within, Keyed};
 
 const SM3: u8 = 3;
 
@@ -129,7 +130,55 @@ fn part_of(goal: Goal, ahead: u64, before: u32, cuts: &[u32], s: u64, end: u64) 
     }
 }
 
-// The part from s on. By SM3, one step that is left alone costs less than four side by side.
+// The part from s on by SM3. One step that is left alone costs less than four side by side.
+fn hashed_part(
+    goal: Goal,
+    key: &[u8],
+    timed: bool,
+    ahead: u64,
+    before: u32,
+    s: u64,
+    end: u64,
+) -> Part
+    requires { ⌜ 0 < goal .modulus ⌝ }
+    requires { ⌜ length (now key) ≤ 32 ⌝ }
+    requires { ⌜ Within ahead s end ⌝ }
+    ensures { λ r. ⌜ r ≡ partOf goal ahead before (cutsFrom (hashedCut (now (key .entry)) timed) (hashedWidth (end - (s - ahead))) (s - ahead)) s end ⌝ }
+{
+    let start = s - ahead;
+    if end - start == 1 {
+        let cuts = [hashed_cut(key, timed, start)];
+        return part_of(goal, ahead, before, &cuts, s, end);
+    }
+    let cuts = hashed_cuts(key, timed, start);
+    part_of(goal, ahead, before, &cuts, s, end)
+}
+
+// The part from s on by SM4, under round keys. Where at most three steps are left, three cost less than five.
+fn keyed_part(
+    goal: Goal,
+    keys: &[u32],
+    timed: bool,
+    ahead: u64,
+    before: u32,
+    s: u64,
+    end: u64,
+) -> Part
+    requires { ⌜ 0 < goal .modulus ⌝ }
+    requires { ⌜ length (now keys) ≡ 32 ⌝ }
+    requires { ⌜ Within ahead s end ⌝ }
+    ensures { λ r. ⌜ r ≡ partOf goal ahead before (cutsFrom (cutBy (now (keys .entry)) timed) (keyedWidth (end - (s - ahead))) (s - ahead)) s end ⌝ }
+{
+    let start = s - ahead;
+    if end - start <= 3 {
+        let cuts = few_cuts(keys, timed, start);
+        return part_of(goal, ahead, before, &cuts, s, end);
+    }
+    let cuts = next_cuts(keys, timed, start);
+    part_of(goal, ahead, before, &cuts, s, end)
+}
+
+// The part from s on.
 fn next_part(
     goal: Goal,
     rule: Rule,
@@ -143,24 +192,14 @@ fn next_part(
     requires { ⌜ 0 < goal .modulus ⌝ }
     requires { ⌜ length (now key) ≤ 32 ⌝ }
     requires { ⌜ Keyed rule (now key) (now keys) ⌝ }
-    requires { ⌜ ahead ≤ 1 ⌝ }
-    requires { ⌜ ahead ≤ s ⌝ }
-    requires { ⌜ s < end ⌝ }
-    requires { ⌜ end ≤ 2 ^ 62 ⌝ }
+    requires { ⌜ Within ahead s end ⌝ }
     ensures { λ r. ⌜ r ≡ partOf goal ahead before (cutsFrom (cutAt rule (now (key .entry))) (width (rule .algorithm) (end - (s - ahead))) (s - ahead)) s end ⌝ }
 {
     let timed = rule.kind == TIME_TOKEN;
-    let start = s - ahead;
-    if rule.algorithm != SM3 {
-        let cuts = next_cuts(keys, timed, start);
-        return part_of(goal, ahead, before, &cuts, s, end);
+    if rule.algorithm == SM3 {
+        return hashed_part(goal, key, timed, ahead, before, s, end);
     }
-    if end - start == 1 {
-        let cuts = [hashed_cut(key, timed, start)];
-        return part_of(goal, ahead, before, &cuts, s, end);
-    }
-    let cuts = hashed_cuts(key, timed, start);
-    part_of(goal, ahead, before, &cuts, s, end)
+    keyed_part(goal, keys, timed, ahead, before, s, end)
 }
 
 // The search from first on, part by part.
