@@ -1,4 +1,4 @@
-// The cuts of consecutive steps side by side, by SM4 without a challenge, for the proved layers above: ID is then one block.
+// The cuts of consecutive steps by SM4 without a challenge, side by side or one alone, for the proved layers above: ID is then one block.
 use crate::cut::cut_words;
 use lanes::Five;
 use lanes::Three;
@@ -6,6 +6,7 @@ use lanes::first_three;
 use lanes::five_blocks;
 use lanes::three_blocks;
 use sm4::Quad;
+use sm4::sides::sides_from;
 ghost use mathlib.Core.Path.{_≡_};
 ghost use mathlib.Core.List.{[], _∷_};
 ghost use Prim.Native.Nat.{_+_, _^_, _≤_, _<_};
@@ -35,6 +36,17 @@ fn block_of(timed: bool, s: u64) -> Quad
     }
 }
 
+// The cut of step s by itself, under a fresh key. The round keys are left in keys.
+pub fn first_cut(key: &[u8], timed: bool, s: u64, keys: &mut [u32]) -> u32
+    requires { ⌜ 16 ≤ length (now key) ⌝ }
+    requires { ⌜ length (now keys) ≡ 32 ⌝ }
+    ensures { λ r. ⌜ r ≡ cutBy (prepared 4 (now (key .entry))) timed s ⌝ }
+    ensures { λ _. ⌜ now (keys .exit) ≡ prepared 4 (now (key .entry)) ⌝ }
+{
+    let block = block_of(timed, s);
+    cut_words(sides_from(&key[0..16], block, keys))
+}
+
 // The blocks of three steps from s on.
 fn three_from(timed: bool, s: u64) -> Three
     requires { ⌜ s < 2 ^ 63 ⌝ }
@@ -59,7 +71,7 @@ fn three_cuts(states: Three) -> [u32; 3]
     [cut_words(a), cut_words(b), cut_words(c)]
 }
 
-// Those of three steps from s on, under a fresh key. The round keys are left in keys.
+// The cuts of three steps from s on, under a fresh key. The round keys are left in keys.
 pub fn first_cuts(key: &[u8], timed: bool, s: u64, keys: &mut [u32]) -> [u32; 3]
     requires { ⌜ 16 ≤ length (now key) ⌝ }
     requires { ⌜ length (now keys) ≡ 32 ⌝ }

@@ -8,7 +8,7 @@ use lib.ListN.{length, getD, drop}
 use Rattle.otp.specs.Numbers.{numberOf}
 use Rattle.otp.specs.Password.{algorithmSm3, keyed, filled, cut}
 use Rattle.otp.specs.ChainLaws.{prepared}
-use Rattle.otp.specs.StepCuts.{stepId}
+use Rattle.otp.specs.StepCuts.{stepId, cutsFrom}
 use Rattle.window.specs.declared.Rule.{Rule}
 use Rattle.window.specs.declared.lanes.Goal.{Goal}
 use Rattle.window.specs.declared.lanes.Part.{Part}
@@ -70,6 +70,15 @@ keyedWidth left = cond (leb left 3) 3 5
 
 abbrev pub width : ℕ → ℕ → ℕ
 width algorithm left = cond (eqb algorithm algorithmSm3) (hashedWidth left) (keyedWidth left)
+
+-- of a search's first part: one where the step is the likeliest and no pair is searched; by SM4 else three, with the key schedule
+unfoldable pub firstWidth : Goal → ℕ → Bool → ℕ → ℕ
+firstWidth goal algorithm likely left = cond (likely && not (goal .pair)) 1 (cond (eqb algorithm algorithmSm3) (hashedWidth left) 3)
+
+unfoldable pub firstPart : Goal → Rule → List ℕ → Bool → ℕ → ℕ → Part
+firstPart goal rule key likely first end =
+    let start = first - aheadBy goal in
+    partOf goal (aheadBy goal) 0 (cutsFrom (cutAt rule key) (firstWidth goal (rule .algorithm) likely (end - start)) start) first end
 
 -- a part begins at s, or with the step before, and has a step
 pub record Within (ahead s end : ℕ) : Type 0 where

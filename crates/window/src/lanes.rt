@@ -5,6 +5,7 @@ use crate::TIME_TOKEN;
 use crate::range::smaller;
 use crate::search::Found;
 use otp::cuts::few_cuts;
+use otp::cuts::first_cut;
 use otp::cuts::first_cuts;
 use otp::cuts::next_cuts;
 use otp::number::number_of;
@@ -17,7 +18,7 @@ ghost use lib.ListN.{length};
 ghost use Rattle.otp.specs.StepCuts.{hashedCut, cutBy, cutsFrom};
 ghost use Rattle.window.specs.CheckLaws.{sweep};
 ghost use Rattle.window.specs.SearchLaws.{foundOf};
-ghost use Rattle.window.specs.Lanes.{goalOf, aheadBy, hits, cutAt, laneTest, listTest, priorOf, Prior, partOf, hashedWidth, keyedWidth, width, Within, Keyed};
+ghost use Rattle.window.specs.Lanes.{goalOf, aheadBy, hits, cutAt, laneTest, listTest, priorOf, Prior, partOf, hashedWidth, keyedWidth, width, Within, firstPart, Keyed};
 
 const SM3: u8 = 3;
 
@@ -240,31 +241,52 @@ fn search_on(
     }
 }
 
-// The search by SM3. The likeliest step goes alone, which costs half of four side by side.
-fn search_hashed(
+// The cut of a step by itself, under a fresh key. SM4's round keys are left in keys.
+fn alone_cut(rule: Rule, key: &[u8], s: u64, keys: &mut [u32]) -> u32
+    requires { ⌜ 16 ≤ length (now key) ⌝ }
+    requires { ⌜ length (now key) ≤ 32 ⌝ }
+    requires { ⌜ length (now keys) ≡ 32 ⌝ }
+    ensures { λ r. ⌜ r ≡ cutAt rule (now (key .entry)) s ⌝ }
+    ensures { λ _. ⌜ Keyed rule (now (key .entry)) (now (keys .exit)) ⌝ }
+{
+    let timed = rule.kind == TIME_TOKEN;
+    if rule.algorithm == SM3 {
+        return hashed_cut(key, timed, s);
+    }
+    first_cut(key, timed, s, keys)
+}
+
+// The first part of a search. The likeliest step goes alone, unless a pair asks for two: several side by side cost about twice as much.
+// SM4's round keys are left in keys.
+fn first_part(
     goal: Goal,
     rule: Rule,
     key: &[u8],
-    keys: &[u32],
-    is_likely: bool,
+    likely: bool,
     first: u64,
     end: u64,
-) -> Found
+    keys: &mut [u32],
+) -> Part
     requires { ⌜ 0 < goal .modulus ⌝ }
+    requires { ⌜ 16 ≤ length (now key) ⌝ }
     requires { ⌜ length (now key) ≤ 32 ⌝ }
-    requires { ⌜ Keyed rule (now key) (now keys) ⌝ }
-    requires { ⌜ aheadBy goal ≤ first ⌝ }
-    requires { ⌜ first < end ⌝ }
-    requires { ⌜ end ≤ 2 ^ 62 ⌝ }
-    ensures { λ r. ⌜ r ≡ foundOf (sweep (laneTest goal (cutAt rule (now (key .entry)))) first (end - first)) ⌝ }
+    requires { ⌜ length (now keys) ≡ 32 ⌝ }
+    requires { ⌜ Within (aheadBy goal) first end ⌝ }
+    ensures { λ r. ⌜ r ≡ firstPart goal rule (now (key .entry)) likely first end ⌝ }
+    ensures { λ _. ⌜ Keyed rule (now (key .entry)) (now (keys .exit)) ⌝ }
 {
-    if goal.pair | !is_likely {
-        return search_on(goal, rule, key, keys, ahead_by(goal), 0, first, end);
+    let timed = rule.kind == TIME_TOKEN;
+    let ahead = ahead_by(goal);
+    let start = first - ahead;
+    if likely & !goal.pair {
+        let cuts = [alone_cut(rule, key, start, keys)];
+        return part_of(goal, ahead, 0, &cuts, first, end);
     }
-    if let Found::At(a) = search_on(goal, rule, key, keys, 0, 0, first, first + 1) {
-        return Found::At(a);
+    if rule.algorithm == SM3 {
+        return hashed_part(goal, key, timed, ahead, 0, first, end);
     }
-    search_on(goal, rule, key, keys, 0, 0, first + 1, end)
+    let cuts = first_cuts(key, timed, start, keys);
+    part_of(goal, ahead, 0, &cuts, first, end)
 }
 
 // The smallest step from first up to, not including, end that hits. SM4's round keys are left in keys, if there is a step.
@@ -272,7 +294,7 @@ pub(crate) fn search_first(
     goal: Goal,
     rule: Rule,
     key: &[u8],
-    is_likely: bool,
+    likely: bool,
     first: u64,
     end: u64,
     keys: &mut [u32],
@@ -289,13 +311,7 @@ pub(crate) fn search_first(
     if end <= first {
         return Found::Nowhere;
     }
-    if rule.algorithm == SM3 {
-        return search_hashed(goal, rule, key, keys, is_likely, first, end);
-    }
-    let ahead = ahead_by(goal);
-    let timed = rule.kind == TIME_TOKEN;
-    let cuts = first_cuts(key, timed, first - ahead, keys);
-    let part = part_of(goal, ahead, 0, &cuts, first, end);
+    let part = first_part(goal, rule, key, likely, first, end, keys);
     let found = part.found;
     if let Found::At(a) = found {
         return Found::At(a);
