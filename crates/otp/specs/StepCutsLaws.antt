@@ -64,6 +64,14 @@ pub lane-cut : (keys : List ℕ) (timed : Bool) (s : ℕ) {x q : Quad} {r : ℕ}
 unfolding cutBy
 lane-cut keys timed s ex eq er = er ∙ ap wordsCut (eq ∙ ap (steps linear keys 32) ex)
 
+-- three lanes
+module _ (keys : List ℕ) (timed : Bool) (s : ℕ) {x y z a b c : Quad} where
+  pub lane-cuts : {r : List ℕ} → x ≡ stepBlock timed s → y ≡ stepBlock timed (s + 1) → z ≡ stepBlock timed (s + 2)
+      → a ≡ steps linear keys 32 x → b ≡ steps linear keys 32 y → c ≡ steps linear keys 32 z
+      → r ≡ wordsCut a ∷ wordsCut b ∷ wordsCut c ∷ [] → r ≡ cutsFrom (cutBy keys timed) 3 s
+  lane-cuts ex ey ez ea eb ec er =
+      er ∙ three-cuts (cutBy keys timed) s (lane-cut keys timed s ex ea refl) (lane-cut keys timed (s + 1) ey eb refl) (lane-cut keys timed (s + 2) ez ec refl)
+
 -- ---- the block
 
 -- eight bytes, then eight zeros

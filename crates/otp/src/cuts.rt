@@ -1,15 +1,18 @@
-// The cuts of consecutive steps side by side, by SM4 without a challenge, for the proved layers above: ID is then one block.
+// The cuts of consecutive steps by SM4 without a challenge, side by side or one alone, for the proved layers above: ID is then one block.
 use crate::cut::cut_words;
 use lanes::Five;
 use lanes::Three;
 use lanes::first_three;
 use lanes::five_blocks;
+use lanes::three_blocks;
 use sm4::Quad;
+use sm4::sides::sides_from;
 ghost use mathlib.Core.Path.{_≡_};
-ghost use Prim.Native.Nat.{_^_, _≤_, _<_};
+ghost use mathlib.Core.List.{[], _∷_};
+ghost use Prim.Native.Nat.{_+_, _^_, _≤_, _<_};
 ghost use lib.ListN.{length};
 ghost use Rattle.otp.specs.ChainLaws.{prepared};
-ghost use Rattle.otp.specs.StepCuts.{stepBlock, cutBy, cutsFrom};
+ghost use Rattle.otp.specs.StepCuts.{stepBlock, wordsCut, cutBy, cutsFrom};
 
 // The words of a step's block: a time token's T has two, an event token's C one.
 fn block_of(timed: bool, s: u64) -> Quad
@@ -33,7 +36,42 @@ fn block_of(timed: bool, s: u64) -> Quad
     }
 }
 
-// Those of three steps from s on, under a fresh key. The round keys are left in keys.
+// The cut of step s by itself, under a fresh key. The round keys are left in keys.
+pub fn first_cut(key: &[u8], timed: bool, s: u64, keys: &mut [u32]) -> u32
+    requires { ⌜ 16 ≤ length (now key) ⌝ }
+    requires { ⌜ length (now keys) ≡ 32 ⌝ }
+    ensures { λ r. ⌜ r ≡ cutBy (prepared 4 (now (key .entry))) timed s ⌝ }
+    ensures { λ _. ⌜ now (keys .exit) ≡ prepared 4 (now (key .entry)) ⌝ }
+{
+    let block = block_of(timed, s);
+    cut_words(sides_from(&key[0..16], block, keys))
+}
+
+// The blocks of three steps from s on.
+fn three_from(timed: bool, s: u64) -> Three
+    requires { ⌜ s < 2 ^ 63 ⌝ }
+    ensures { λ r. ⌜ r .first ≡ stepBlock timed s ⌝ }
+    ensures { λ r. ⌜ r .second ≡ stepBlock timed (s + 1) ⌝ }
+    ensures { λ r. ⌜ r .third ≡ stepBlock timed (s + 2) ⌝ }
+{
+    Three {
+        first: block_of(timed, s),
+        second: block_of(timed, s + 1),
+        third: block_of(timed, s + 2),
+    }
+}
+
+// The cuts of three last states.
+fn three_cuts(states: Three) -> [u32; 3]
+    ensures { λ r. ⌜ r ≡ wordsCut (states .first) ∷ wordsCut (states .second) ∷ wordsCut (states .third) ∷ [] ⌝ }
+{
+    let a = states.first;
+    let b = states.second;
+    let c = states.third;
+    [cut_words(a), cut_words(b), cut_words(c)]
+}
+
+// The cuts of three steps from s on, under a fresh key. The round keys are left in keys.
 pub fn first_cuts(key: &[u8], timed: bool, s: u64, keys: &mut [u32]) -> [u32; 3]
     requires { ⌜ 16 ≤ length (now key) ⌝ }
     requires { ⌜ length (now keys) ≡ 32 ⌝ }
@@ -41,16 +79,18 @@ pub fn first_cuts(key: &[u8], timed: bool, s: u64, keys: &mut [u32]) -> [u32; 3]
     ensures { λ r. ⌜ r ≡ cutsFrom (cutBy (prepared 4 (now (key .entry))) timed) 3 s ⌝ }
     ensures { λ _. ⌜ now (keys .exit) ≡ prepared 4 (now (key .entry)) ⌝ }
 {
-    let blocks = Three {
-        first: block_of(timed, s),
-        second: block_of(timed, s + 1),
-        third: block_of(timed, s + 2),
-    };
-    let states = first_three(&key[0..16], blocks, keys);
-    let a = states.first;
-    let b = states.second;
-    let c = states.third;
-    [cut_words(a), cut_words(b), cut_words(c)]
+    let blocks = three_from(timed, s);
+    three_cuts(first_three(&key[0..16], blocks, keys))
+}
+
+// Those of three steps from s on, under round keys.
+pub fn few_cuts(keys: &[u32], timed: bool, s: u64) -> [u32; 3]
+    requires { ⌜ length (now keys) ≡ 32 ⌝ }
+    requires { ⌜ s < 2 ^ 63 ⌝ }
+    ensures { λ r. ⌜ r ≡ cutsFrom (cutBy (now (keys .entry)) timed) 3 s ⌝ }
+{
+    let blocks = three_from(timed, s);
+    three_cuts(three_blocks(keys, blocks))
 }
 
 // Those of five steps from s on, under round keys.

@@ -99,12 +99,12 @@ sides-keys key ew em e = rw (e, em, ew)
 
 -- ---- a block under a key
 
-module _ (key block : List ℕ) where
-  -- the state after all rounds
-  pub sides-state : {w m x : Quad} {s : Sides} → w ≡ wordsOf key → m ≡ masked w → x ≡ wordsOf block
-      → s ≡ sideSteps cks 32 (record { key = m; state = x }) → s .state ≡ steps linear (roundKeys key) 32 (wordsOf block)
-  sides-state ew em ex es = rw (es, em, ew, ex, sides-are key (wordsOf block) 32 (omega arith))
+-- the state after all rounds
+pub sides-state : (key : List ℕ) (x : Quad) {w m : Quad} {s : Sides} → w ≡ wordsOf key → m ≡ masked w → s ≡ sideSteps cks 32 (record { key = m; state = x })
+    → s .state ≡ steps linear (roundKeys key) 32 x
+sides-state key x ew em es = rw (es, em, ew, sides-are key x 32 (omega arith))
 
+module _ (key block : List ℕ) where
   pub sm4-key-refused : (length key ≡ 16 → ⊥) → cipherRefused ≡ sm4Answer key block
   unfolding sm4Answer
   sm4-key-refused n = rw (ne-eqb (length key) 16 n)

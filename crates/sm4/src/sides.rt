@@ -78,7 +78,23 @@ fn all_sides(table: &[u8], ck: &[u32], start: Sides, keys: &mut [u32]) -> Sides
     s
 }
 
-// The state after the rounds. The round keys are left in keys.
+// The state after the rounds, of a block's four words. The round keys are left in keys.
+pub fn sides_from(key: &[u8], block: Quad, keys: &mut [u32]) -> Quad
+    requires { ⌜ length (now key) ≡ 16 ⌝ }
+    requires { ⌜ length (now keys) ≡ 32 ⌝ }
+    ensures { λ r. ⌜ r ≡ steps linear (roundKeys (now (key .entry))) 32 block ⌝ }
+    ensures { λ _. ⌜ now (keys .exit) ≡ roundKeys (now (key .entry)) ⌝ }
+{
+    let table = sbox();
+    let ck = constants();
+    let start = Sides {
+        key: masked(words_of(key)),
+        state: block,
+    };
+    all_sides(&table, &ck, start, keys).state
+}
+
+// The same of its 16 bytes.
 pub(crate) fn sides_of(key: &[u8], block: &[u8], keys: &mut [u32]) -> Quad
     requires { ⌜ length (now key) ≡ 16 ⌝ }
     requires { ⌜ length (now block) ≡ 16 ⌝ }
@@ -86,13 +102,7 @@ pub(crate) fn sides_of(key: &[u8], block: &[u8], keys: &mut [u32]) -> Quad
     ensures { λ r. ⌜ r ≡ steps linear (roundKeys (now (key .entry))) 32 (wordsOf (now (block .entry))) ⌝ }
     ensures { λ _. ⌜ now (keys .exit) ≡ roundKeys (now (key .entry)) ⌝ }
 {
-    let table = sbox();
-    let ck = constants();
-    let start = Sides {
-        key: masked(words_of(key)),
-        state: words_of(block),
-    };
-    all_sides(&table, &ck, start, keys).state
+    sides_from(key, words_of(block), keys)
 }
 
 // A block of 16 bytes under a key of 16 bytes.

@@ -1,14 +1,14 @@
 -- The search by cuts of consecutive steps: the presented passwords as numbers, and which cuts have them.
-use Prim.Native.Nat.{ℕ, _+_, _-_, _%_, _^_, min}
+use Prim.Native.Nat.{ℕ, _+_, _-_, _%_, _^_, _≤_, _<_, min}
 use mathlib.Core.Path.{_≡_}
 use mathlib.Core.Bool.{Bool, true, false, cond, not, _&&_, _||_}
 use mathlib.Core.List.{List, [], _∷_}
-use lib.Dec.{eqb}
+use lib.Dec.{eqb, leb}
 use lib.ListN.{length, getD, drop}
 use Rattle.otp.specs.Numbers.{numberOf}
 use Rattle.otp.specs.Password.{algorithmSm3, keyed, filled, cut}
 use Rattle.otp.specs.ChainLaws.{prepared}
-use Rattle.otp.specs.StepCuts.{stepId}
+use Rattle.otp.specs.StepCuts.{stepId, cutsFrom}
 use Rattle.window.specs.declared.Rule.{Rule}
 use Rattle.window.specs.declared.lanes.Goal.{Goal}
 use Rattle.window.specs.declared.lanes.Part.{Part}
@@ -60,9 +60,32 @@ partOf goal ahead before cuts s end =
       next = s + (length cuts - ahead);
     }
 
--- how many cuts are made at once: five by SM4, four by SM3, and one where one step is left
-unfoldable pub width : ℕ → ℕ → ℕ
-width algorithm left = cond (eqb algorithm algorithmSm3) (cond (eqb left 1) 1 4) 5
+-- how many cuts are made at once, by how many are left: four by SM3, or one
+unfoldable pub hashedWidth : ℕ → ℕ
+hashedWidth left = cond (eqb left 1) 1 4
+
+-- five by SM4, or three
+unfoldable pub keyedWidth : ℕ → ℕ
+keyedWidth left = cond (leb left 3) 3 5
+
+abbrev pub width : ℕ → ℕ → ℕ
+width algorithm left = cond (eqb algorithm algorithmSm3) (hashedWidth left) (keyedWidth left)
+
+-- of a search's first part: one where the step is the likeliest and no pair is searched; by SM4 else three, with the key schedule
+unfoldable pub firstWidth : Goal → ℕ → Bool → ℕ → ℕ
+firstWidth goal algorithm likely left = cond (likely && not (goal .pair)) 1 (cond (eqb algorithm algorithmSm3) (hashedWidth left) 3)
+
+unfoldable pub firstPart : Goal → Rule → List ℕ → Bool → ℕ → ℕ → Part
+firstPart goal rule key likely first end =
+    let start = first - aheadBy goal in
+    partOf goal (aheadBy goal) 0 (cutsFrom (cutAt rule key) (firstWidth goal (rule .algorithm) likely (end - start)) start) first end
+
+-- a part begins at s, or with the step before, and has a step
+pub record Within (ahead s end : ℕ) : Type 0 where
+  pub one : ahead ≤ 1
+  pub begun : ahead ≤ s
+  pub some : s < end
+  pub small : end ≤ 2 ^ 62
 
 -- SM4 has its round keys
 abbrev pub Keyed : Rule → List ℕ → List ℕ → Type 0

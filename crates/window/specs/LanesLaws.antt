@@ -8,8 +8,8 @@ use mathlib.Core.Option.{Option, none, some}
 use native.Mathlib.Nat.{add-zero, mod-lt, zero-lt-suc}
 use native.Mathlib.Numerals.{add-one}
 use native.Mathlib.Omega.{arith}
-use borrow.Author.Tests.{eq-eqb, ne-eqb, eqb-true, eqb-false}
-use lib.Dec.{eqb}
+use borrow.Author.Tests.{eq-eqb, ne-eqb, eqb-true, eqb-false, le-leb, lt-leb, not-true}
+use lib.Dec.{eqb, leb}
 use lib.ListN.{length, getD, take, drop, length-drop}
 use lib.Seq.{take-all}
 use Rattle.words.specs.ListsLaws.{by-test, and-true}
@@ -29,11 +29,11 @@ use Rattle.window.specs.declared.lanes.Goal.{Goal}
 use Rattle.window.specs.declared.lanes.Part.{Part}
 use Rattle.window.specs.Window.{timeToken}
 use Rattle.window.specs.Check.{orElse}
-use Rattle.window.specs.CheckLaws.{sweep, order, clash}
+use Rattle.window.specs.CheckLaws.{sweep, order}
 use Rattle.window.specs.PasswordAt.{passwordAt, hasPassword}
 use Rattle.window.specs.PasswordAtLaws.{matchesAt, countsRight}
 use Rattle.window.specs.SearchLaws.{foundOf, sweep-same}
-use Rattle.window.specs.Lanes.{goalOf, aheadBy, hits, cutAt, laneTest, listTest, priorOf, Prior, partOf, width}
+use Rattle.window.specs.Lanes.{goalOf, aheadBy, hits, cutAt, laneTest, listTest, priorOf, Prior, partOf, hashedWidth, keyedWidth, width, Within, firstWidth, firstPart}
 
 -- ---- numbers
 
@@ -226,24 +226,9 @@ module _ (goal : Goal) (cutOf : ℕ → ℕ) (ahead before n s end : ℕ) {p : P
       (sweep-part (laneTest goal cutOf) s (n - ahead) end
       ∙ left (sweep (laneTest goal cutOf) s (min (s + (n - ahead)) end - s)) (sweep (laneTest goal cutOf) (s + (n - ahead)) (end - (s + (n - ahead)))) part-found h))
 
--- no cut before s is asked for, unless of a pair
-pub single-prior : (goal : Goal) (cutOf : ℕ → ℕ) (ahead before s : ℕ) (b : Bool) → goal .pair || b ≡ false → Prior goal cutOf ahead before s
-single-prior goal cutOf ahead before s b n t z = clash {b = true} refl (rw t at n)
-
 -- a search begins with no cut before it: of a pair, its first part's own cuts begin there
 pub ahead-prior : (goal : Goal) (cutOf : ℕ → ℕ) (before s : ℕ) {ahead : ℕ} → ahead ≡ aheadBy goal → Prior goal cutOf ahead before s
 ahead-prior goal cutOf before s e t z = let o : aheadBy goal ≡ 1 = rw t in absurd (omega (arith, e, o, z))
-
--- the first step is searched by itself, then the others
-module _ (test : ℕ → Bool) (s end : ℕ) {f : Found} (h : s < end) (ef : f ≡ foundOf (sweep test s (s + 1 - s))) where
-  first-part : f ≡ foundOf (sweep test s (min (s + 1) end - s))
-  first-part = let e : min (s + 1) end - s ≡ s + 1 - s = omega arith in rw e ef
-
-  pub alone-hit : {a : Step} → f ≡ At a → At a ≡ foundOf (sweep test s (end - s))
-  alone-hit {a} i = rw (sweep-part test s 1 end) (told (sweep test s (min (s + 1) end - s)) (sweep test (s + 1) (end - (s + 1))) first-part a i)
-
-  pub alone-miss : f ≡ Nowhere → foundOf (sweep test (s + 1) (end - (s + 1))) ≡ foundOf (sweep test s (end - s))
-  alone-miss i = sym (ap foundOf (sweep-part test s 1 end ∙ left (sweep test s (min (s + 1) end - s)) (sweep test (s + 1) (end - (s + 1))) first-part i))
 
 -- a list of cuts gives its part
 pub part-is : (goal : Goal) (ahead before : ℕ) (cuts : List ℕ) (s end : ℕ) {prior last : ℕ} {f : Found} → prior ≡ priorOf ahead before (getD cuts 0 0)
@@ -256,6 +241,48 @@ part-is goal ahead before cuts s end ep ef el =
     let w : take (length cuts - ahead) (drop ahead cuts) ≡ drop ahead cuts = take-all (length cuts - ahead) (drop ahead cuts) (omega (arith, l)) in
     rw (ef, el, w, l, ep)
 
+-- the cuts that are made are as many as the width says
+pub part-cuts : (goal : Goal) (ahead before s end : ℕ) {w n : ℕ} (cutOf : ℕ → ℕ) {cuts : List ℕ} {r : Part} → w ≡ n → cuts ≡ cutsFrom cutOf n (s - ahead)
+    → r ≡ partOf goal ahead before cuts s end → r ≡ partOf goal ahead before (cutsFrom cutOf w (s - ahead)) s end
+part-cuts goal ahead before s end cutOf ew ec er = rw ew (er ∙ ap (λ (l : List ℕ). partOf goal ahead before l s end) ec)
+
+pub one-cut : (cutOf : ℕ → ℕ) (s : ℕ) {x : ℕ} → x ≡ cutOf s → x ∷ [] ≡ cutsFrom cutOf 1 s
+unfolding cutsFrom
+one-cut cutOf s e = rw e
+
+-- ---- widths
+
+module _ (left : ℕ) where
+  pub hashed-one : left ≡ 1 → hashedWidth left ≡ 1
+  unfolding hashedWidth
+  hashed-one e = rw (eq-eqb left 1 e)
+
+  pub hashed-four : (left ≡ 1 → ⊥) → hashedWidth left ≡ 4
+  unfolding hashedWidth
+  hashed-four n = rw (ne-eqb left 1 n)
+
+  pub keyed-three : left ≤ 3 → keyedWidth left ≡ 3
+  unfolding keyedWidth
+  keyed-three l = rw (le-leb left 3 l)
+
+  pub keyed-five : 3 < left → keyedWidth left ≡ 5
+  unfolding keyedWidth
+  keyed-five l = rw (lt-leb left 3 l)
+
+  keyed-most : (3 ≤ keyedWidth left) × (keyedWidth left ≤ 5)
+  unfolding keyedWidth
+  keyed-most = by-test (leb left 3) (λ t. rw t (omega arith, omega arith)) (λ t. rw t (omega arith, omega arith))
+
+-- a part goes on by at least a step
+pub width-room : (algorithm ahead s end : ℕ) → ahead ≤ 1 → ahead ≤ s → s < end → ahead < width algorithm (end - (s - ahead))
+width-room algorithm ahead s end la ls h =
+    let left = end - (s - ahead) in
+    by-test (eqb algorithm algorithmSm3)
+    (λ t. rw t (by-test (eqb left 1)
+    (λ u. let e = eqb-true left 1 u in let w = hashed-one left e in omega arith)
+    (λ u. let w = hashed-four left (eqb-false left 1 u) in omega arith)))
+    (λ t. let w = keyed-most left in rw t (omega arith))
+
 -- ---- the cuts by either cipher
 
 module _ (rule : Rule) (key : List ℕ) {timed : Bool} (et : timed ≡ eqb (rule .kind) timeToken) where
@@ -263,7 +290,7 @@ module _ (rule : Rule) (key : List ℕ) {timed : Bool} (et : timed ≡ eqb (rule
   unfolding cutAt
   hashed-cut-is s a = rw et (keyed-hashed (rule .algorithm) key (filled (stepId (eqb (rule .kind) timeToken) s)) a)
 
-  keyed-cut-is : (s : ℕ) {keys : List ℕ} → (rule .algorithm ≡ algorithmSm3 → ⊥) → keys ≡ prepared 4 key → s < 2 ^ 64 → cutBy keys timed s ≡ cutAt rule key s
+  pub keyed-cut-is : (s : ℕ) {keys : List ℕ} → (rule .algorithm ≡ algorithmSm3 → ⊥) → keys ≡ prepared 4 key → s < 2 ^ 64 → cutBy keys timed s ≡ cutAt rule key s
   unfolding cutAt
   keyed-cut-is s a ek h = rw (ek, et) (sym (step-cut key (eqb (rule .kind) timeToken) s h) ∙ keyed-chained (rule .algorithm) key (filled (stepId (eqb (rule .kind) timeToken) s)) a)
 
@@ -275,32 +302,72 @@ module _ (rule : Rule) (key : List ℕ) {timed : Bool} (et : timed ≡ eqb (rule
         let e = same-cuts (cutBy keys timed) (cutAt rule key) n (s - ahead) (2 ^ 64) (omega arith) (λ x l. keyed-cut-is x a ek l) in
         er ∙ ap (λ (l : List ℕ). partOf goal ahead before l s end) (ec ∙ e)
 
-    pub next-keyed : {keys cuts : List ℕ} → (rule .algorithm ≡ algorithmSm3 → ⊥) → keys ≡ prepared 4 key → s ≤ 2 ^ 63
-        → cuts ≡ cutsFrom (cutBy keys timed) 5 (s - ahead) → r ≡ partOf goal ahead before cuts s end
+    pub next-keyed : {keys : List ℕ} → (rule .algorithm ≡ algorithmSm3 → ⊥) → keys ≡ prepared 4 key → s ≤ 2 ^ 63
+        → r ≡ partOf goal ahead before (cutsFrom (cutBy keys timed) (keyedWidth (end - (s - ahead))) (s - ahead)) s end
         → r ≡ partOf goal ahead before (cutsFrom (cutAt rule key) (width (rule .algorithm) (end - (s - ahead))) (s - ahead)) s end
-    unfolding width
-    next-keyed a ek h ec er = rw (ne-eqb (rule .algorithm) algorithmSm3 a) (keyed-part 5 a ek (omega arith) ec er)
+    next-keyed a ek h er =
+        let w = keyed-most (end - (s - ahead)) in
+        rw (ne-eqb (rule .algorithm) algorithmSm3 a) (keyed-part (keyedWidth (end - (s - ahead))) a ek (omega arith) refl er)
 
-    pub next-alone : {x : ℕ} → rule .algorithm ≡ algorithmSm3 → end - (s - ahead) ≡ 1 → x ≡ hashedCut key timed (s - ahead) → r ≡ partOf goal ahead before (x ∷ []) s end
+    pub next-hashed : rule .algorithm ≡ algorithmSm3
+        → r ≡ partOf goal ahead before (cutsFrom (hashedCut key timed) (hashedWidth (end - (s - ahead))) (s - ahead)) s end
         → r ≡ partOf goal ahead before (cutsFrom (cutAt rule key) (width (rule .algorithm) (end - (s - ahead))) (s - ahead)) s end
-    unfolding width cutsFrom
-    next-alone a one ex er =
-        rw (eq-eqb (rule .algorithm) algorithmSm3 a, eq-eqb (end - (s - ahead)) 1 one) (er ∙ ap (λ (y : ℕ). partOf goal ahead before (y ∷ []) s end) (ex ∙ hashed-cut-is (s - ahead) a))
+    next-hashed a er =
+        let n = hashedWidth (end - (s - ahead)) in
+        let e = same-cuts (hashedCut key timed) (cutAt rule key) n (s - ahead) (s - ahead + n) (omega arith) (λ x l. hashed-cut-is x a) in
+        rw (eq-eqb (rule .algorithm) algorithmSm3 a) (er ∙ ap (λ (l : List ℕ). partOf goal ahead before l s end) e)
 
-    pub next-four : {cuts : List ℕ} → rule .algorithm ≡ algorithmSm3 → (end - (s - ahead) ≡ 1 → ⊥) → cuts ≡ cutsFrom (hashedCut key timed) 4 (s - ahead)
-        → r ≡ partOf goal ahead before cuts s end
-        → r ≡ partOf goal ahead before (cutsFrom (cutAt rule key) (width (rule .algorithm) (end - (s - ahead))) (s - ahead)) s end
-    unfolding width
-    next-four a more ec er =
-        let e = same-cuts (hashedCut key timed) (cutAt rule key) 4 (s - ahead) (s - ahead + 4) (omega arith) (λ x l. hashed-cut-is x a) in
-        rw (eq-eqb (rule .algorithm) algorithmSm3 a, ne-eqb (end - (s - ahead)) 1 more) (er ∙ ap (λ (l : List ℕ). partOf goal ahead before l s end) (ec ∙ e))
+-- ---- the first part
 
--- a part goes on by at least a step, and by no more than five
-pub width-room : (algorithm ahead s end : ℕ) → ahead ≤ 1 → ahead ≤ s → s < end → (ahead < width algorithm (end - (s - ahead))) × (width algorithm (end - (s - ahead)) ≤ 5)
-unfolding width
-width-room algorithm ahead s end la ls h =
-    by-test (eqb algorithm algorithmSm3)
-    (λ t. by-test (eqb (end - (s - ahead)) 1)
-    (λ u. let e = eqb-true (end - (s - ahead)) 1 u in rw (t, u) (omega arith, omega arith))
-    (λ u. rw (t, u) (omega arith, omega arith)))
-    (λ t. rw t (omega arith, omega arith))
+pub first-within : (goal : Goal) {first end : ℕ} → aheadBy goal ≤ first → first < end → end ≤ 2 ^ 62 → Within (aheadBy goal) first end
+first-within goal b h m =
+    let one : aheadBy goal ≤ 1 = by-test (goal .pair) (λ t. rw t (omega arith)) (λ t. rw t (omega arith)) in
+    record { one = one; begun = b; some = h; small = m }
+
+module _ (goal : Goal) (likely : Bool) where
+  -- the likeliest step is taken alone only if no pair is searched
+  pub alone-ahead : {ahead : ℕ} → ahead ≡ aheadBy goal → likely && not (goal .pair) ≡ true → ahead ≡ 0
+  alone-ahead e t = let p = not-true (goal .pair) (and-right likely (not (goal .pair)) t) in e ∙ rw p
+
+  module _ (algorithm left : ℕ) where
+    pub first-one : likely && not (goal .pair) ≡ true → firstWidth goal algorithm likely left ≡ 1
+    unfolding firstWidth
+    first-one t = rw t
+
+    pub first-hashed : likely && not (goal .pair) ≡ false → algorithm ≡ algorithmSm3 → firstWidth goal algorithm likely left ≡ width algorithm left
+    unfolding firstWidth
+    first-hashed t a = rw (t, eq-eqb algorithm algorithmSm3 a)
+
+    pub first-three : likely && not (goal .pair) ≡ false → (algorithm ≡ algorithmSm3 → ⊥) → firstWidth goal algorithm likely left ≡ 3
+    unfolding firstWidth
+    first-three t a = rw (t, ne-eqb algorithm algorithmSm3 a)
+
+module _ (goal : Goal) (rule : Rule) (key : List ℕ) (likely : Bool) (first end : ℕ) {p : Part} where
+  pub first-part-is : {n ahead : ℕ} {cuts : List ℕ} → ahead ≡ aheadBy goal → firstWidth goal (rule .algorithm) likely (end - (first - ahead)) ≡ n
+      → cuts ≡ cutsFrom (cutAt rule key) n (first - ahead) → p ≡ partOf goal ahead 0 cuts first end → p ≡ firstPart goal rule key likely first end
+  unfolding firstPart
+  first-part-is {ahead = ahead} ea ew ec ep = rw (← ea) (part-cuts goal ahead 0 first end (cutAt rule key) ew ec ep)
+
+  -- what it gives, and that the search goes on behind it
+  module _ (i : Within (aheadBy goal) first end) (ep : p ≡ firstPart goal rule key likely first end) where
+    first-room : aheadBy goal < firstWidth goal (rule .algorithm) likely (end - (first - aheadBy goal))
+    first-room =
+        let left = end - (first - aheadBy goal) in
+        by-test (likely && not (goal .pair))
+        (λ t. let z = alone-ahead goal likely refl t in let w = first-one goal likely (rule .algorithm) left t in omega arith)
+        (λ t. by-test (eqb (rule .algorithm) algorithmSm3)
+        (λ a. rw (first-hashed goal likely (rule .algorithm) left t (eqb-true (rule .algorithm) algorithmSm3 a)) (width-room (rule .algorithm) (aheadBy goal) first end (i .one) (i .begun) (i .some)))
+        (λ a. let w = first-three goal likely (rule .algorithm) left t (eqb-false (rule .algorithm) algorithmSm3 a) in omega (arith, i .one)))
+
+    pub first-last : p .last ≡ cutAt rule key (p .next - 1)
+    unfolding firstPart
+    first-last = part-last goal (cutAt rule key) (aheadBy goal) 0 _ first end (i .one) (i .begun) first-room (ahead-prior goal (cutAt rule key) 0 first refl) ep
+
+    pub first-hit : {a : Step} → p .found ≡ At a → At a ≡ foundOf (sweep (laneTest goal (cutAt rule key)) first (end - first))
+    unfolding firstPart
+    first-hit h = part-hit goal (cutAt rule key) (aheadBy goal) 0 _ first end (i .one) (i .begun) first-room (ahead-prior goal (cutAt rule key) 0 first refl) ep h
+
+    pub first-miss : p .found ≡ Nowhere
+        → foundOf (sweep (laneTest goal (cutAt rule key)) (p .next) (end - p .next)) ≡ foundOf (sweep (laneTest goal (cutAt rule key)) first (end - first))
+    unfolding firstPart
+    first-miss h = sym (part-miss goal (cutAt rule key) (aheadBy goal) 0 _ first end (i .one) (i .begun) first-room (ahead-prior goal (cutAt rule key) 0 first refl) ep h)

@@ -4,6 +4,8 @@ use crate::Step;
 use crate::TIME_TOKEN;
 use crate::range::smaller;
 use crate::search::Found;
+use otp::cuts::few_cuts;
+use otp::cuts::first_cut;
 use otp::cuts::first_cuts;
 use otp::cuts::next_cuts;
 use otp::number::number_of;
@@ -13,10 +15,10 @@ use otp::steps::hashed_cuts;
 ghost use mathlib.Core.Path.{_≡_};
 ghost use Prim.Native.Nat.{_+_, _-_, _^_, _≤_, _<_, min};
 ghost use lib.ListN.{length};
-ghost use Rattle.otp.specs.StepCuts.{cutsFrom};
+ghost use Rattle.otp.specs.StepCuts.{hashedCut, cutBy, cutsFrom};
 ghost use Rattle.window.specs.CheckLaws.{sweep};
 ghost use Rattle.window.specs.SearchLaws.{foundOf};
-ghost use Rattle.window.specs.Lanes.{goalOf, aheadBy, hits, cutAt, laneTest, listTest, priorOf, Prior, partOf, width, Keyed};
+ghost use Rattle.window.specs.Lanes.{goalOf, aheadBy, hits, cutAt, laneTest, listTest, priorOf, Prior, partOf, hashedWidth, keyedWidth, width, Within, firstPart, Keyed};
 
 const SM3: u8 = 3;
 
@@ -129,7 +131,55 @@ fn part_of(goal: Goal, ahead: u64, before: u32, cuts: &[u32], s: u64, end: u64) 
     }
 }
 
-// The part from s on. By SM3, one step that is left alone costs less than four side by side.
+// The part from s on by SM3. One step that is left alone costs less than four side by side.
+fn hashed_part(
+    goal: Goal,
+    key: &[u8],
+    timed: bool,
+    ahead: u64,
+    before: u32,
+    s: u64,
+    end: u64,
+) -> Part
+    requires { ⌜ 0 < goal .modulus ⌝ }
+    requires { ⌜ length (now key) ≤ 32 ⌝ }
+    requires { ⌜ Within ahead s end ⌝ }
+    ensures { λ r. ⌜ r ≡ partOf goal ahead before (cutsFrom (hashedCut (now (key .entry)) timed) (hashedWidth (end - (s - ahead))) (s - ahead)) s end ⌝ }
+{
+    let start = s - ahead;
+    if end - start == 1 {
+        let cuts = [hashed_cut(key, timed, start)];
+        return part_of(goal, ahead, before, &cuts, s, end);
+    }
+    let cuts = hashed_cuts(key, timed, start);
+    part_of(goal, ahead, before, &cuts, s, end)
+}
+
+// The part from s on by SM4, under round keys. Where at most three steps are left, three cost less than five.
+fn keyed_part(
+    goal: Goal,
+    keys: &[u32],
+    timed: bool,
+    ahead: u64,
+    before: u32,
+    s: u64,
+    end: u64,
+) -> Part
+    requires { ⌜ 0 < goal .modulus ⌝ }
+    requires { ⌜ length (now keys) ≡ 32 ⌝ }
+    requires { ⌜ Within ahead s end ⌝ }
+    ensures { λ r. ⌜ r ≡ partOf goal ahead before (cutsFrom (cutBy (now (keys .entry)) timed) (keyedWidth (end - (s - ahead))) (s - ahead)) s end ⌝ }
+{
+    let start = s - ahead;
+    if end - start <= 3 {
+        let cuts = few_cuts(keys, timed, start);
+        return part_of(goal, ahead, before, &cuts, s, end);
+    }
+    let cuts = next_cuts(keys, timed, start);
+    part_of(goal, ahead, before, &cuts, s, end)
+}
+
+// The part from s on.
 fn next_part(
     goal: Goal,
     rule: Rule,
@@ -143,24 +193,14 @@ fn next_part(
     requires { ⌜ 0 < goal .modulus ⌝ }
     requires { ⌜ length (now key) ≤ 32 ⌝ }
     requires { ⌜ Keyed rule (now key) (now keys) ⌝ }
-    requires { ⌜ ahead ≤ 1 ⌝ }
-    requires { ⌜ ahead ≤ s ⌝ }
-    requires { ⌜ s < end ⌝ }
-    requires { ⌜ end ≤ 2 ^ 62 ⌝ }
+    requires { ⌜ Within ahead s end ⌝ }
     ensures { λ r. ⌜ r ≡ partOf goal ahead before (cutsFrom (cutAt rule (now (key .entry))) (width (rule .algorithm) (end - (s - ahead))) (s - ahead)) s end ⌝ }
 {
     let timed = rule.kind == TIME_TOKEN;
-    let start = s - ahead;
-    if rule.algorithm != SM3 {
-        let cuts = next_cuts(keys, timed, start);
-        return part_of(goal, ahead, before, &cuts, s, end);
+    if rule.algorithm == SM3 {
+        return hashed_part(goal, key, timed, ahead, before, s, end);
     }
-    if end - start == 1 {
-        let cuts = [hashed_cut(key, timed, start)];
-        return part_of(goal, ahead, before, &cuts, s, end);
-    }
-    let cuts = hashed_cuts(key, timed, start);
-    part_of(goal, ahead, before, &cuts, s, end)
+    keyed_part(goal, keys, timed, ahead, before, s, end)
 }
 
 // The search from first on, part by part.
@@ -201,31 +241,52 @@ fn search_on(
     }
 }
 
-// The search by SM3. The likeliest step goes alone, which costs half of four side by side.
-fn search_hashed(
+// The cut of a step by itself, under a fresh key. SM4's round keys are left in keys.
+fn alone_cut(rule: Rule, key: &[u8], s: u64, keys: &mut [u32]) -> u32
+    requires { ⌜ 16 ≤ length (now key) ⌝ }
+    requires { ⌜ length (now key) ≤ 32 ⌝ }
+    requires { ⌜ length (now keys) ≡ 32 ⌝ }
+    ensures { λ r. ⌜ r ≡ cutAt rule (now (key .entry)) s ⌝ }
+    ensures { λ _. ⌜ Keyed rule (now (key .entry)) (now (keys .exit)) ⌝ }
+{
+    let timed = rule.kind == TIME_TOKEN;
+    if rule.algorithm == SM3 {
+        return hashed_cut(key, timed, s);
+    }
+    first_cut(key, timed, s, keys)
+}
+
+// The first part of a search. The likeliest step goes alone, unless a pair asks for two: several side by side cost about twice as much.
+// SM4's round keys are left in keys.
+fn first_part(
     goal: Goal,
     rule: Rule,
     key: &[u8],
-    keys: &[u32],
-    is_likely: bool,
+    likely: bool,
     first: u64,
     end: u64,
-) -> Found
+    keys: &mut [u32],
+) -> Part
     requires { ⌜ 0 < goal .modulus ⌝ }
+    requires { ⌜ 16 ≤ length (now key) ⌝ }
     requires { ⌜ length (now key) ≤ 32 ⌝ }
-    requires { ⌜ Keyed rule (now key) (now keys) ⌝ }
-    requires { ⌜ aheadBy goal ≤ first ⌝ }
-    requires { ⌜ first < end ⌝ }
-    requires { ⌜ end ≤ 2 ^ 62 ⌝ }
-    ensures { λ r. ⌜ r ≡ foundOf (sweep (laneTest goal (cutAt rule (now (key .entry)))) first (end - first)) ⌝ }
+    requires { ⌜ length (now keys) ≡ 32 ⌝ }
+    requires { ⌜ Within (aheadBy goal) first end ⌝ }
+    ensures { λ r. ⌜ r ≡ firstPart goal rule (now (key .entry)) likely first end ⌝ }
+    ensures { λ _. ⌜ Keyed rule (now (key .entry)) (now (keys .exit)) ⌝ }
 {
-    if goal.pair | !is_likely {
-        return search_on(goal, rule, key, keys, ahead_by(goal), 0, first, end);
+    let timed = rule.kind == TIME_TOKEN;
+    let ahead = ahead_by(goal);
+    let start = first - ahead;
+    if likely & !goal.pair {
+        let cuts = [alone_cut(rule, key, start, keys)];
+        return part_of(goal, ahead, 0, &cuts, first, end);
     }
-    if let Found::At(a) = search_on(goal, rule, key, keys, 0, 0, first, first + 1) {
-        return Found::At(a);
+    if rule.algorithm == SM3 {
+        return hashed_part(goal, key, timed, ahead, 0, first, end);
     }
-    search_on(goal, rule, key, keys, 0, 0, first + 1, end)
+    let cuts = first_cuts(key, timed, start, keys);
+    part_of(goal, ahead, 0, &cuts, first, end)
 }
 
 // The smallest step from first up to, not including, end that hits. SM4's round keys are left in keys, if there is a step.
@@ -233,7 +294,7 @@ pub(crate) fn search_first(
     goal: Goal,
     rule: Rule,
     key: &[u8],
-    is_likely: bool,
+    likely: bool,
     first: u64,
     end: u64,
     keys: &mut [u32],
@@ -250,13 +311,7 @@ pub(crate) fn search_first(
     if end <= first {
         return Found::Nowhere;
     }
-    if rule.algorithm == SM3 {
-        return search_hashed(goal, rule, key, keys, is_likely, first, end);
-    }
-    let ahead = ahead_by(goal);
-    let timed = rule.kind == TIME_TOKEN;
-    let cuts = first_cuts(key, timed, first - ahead, keys);
-    let part = part_of(goal, ahead, 0, &cuts, first, end);
+    let part = first_part(goal, rule, key, likely, first, end, keys);
     let found = part.found;
     if let Found::At(a) = found {
         return Found::At(a);

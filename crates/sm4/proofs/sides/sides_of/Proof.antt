@@ -1,50 +1,22 @@
-use Rattle.sm4.specs.SidesLaws.{sides-state, sides-keys}
+use mathlib.Core.Path.{ap, _∙_}
+use Rattle.sm4.specs.Sm4.{linear, steps, roundKeys}
 use borrow.Author.Needs.{needs}
 use Rattle.sm4.proofs.sides.sides_of.Statement.{statement}
 use Rattle.sm4.proofs.sides.sides_of.Tie as tie
 
-sbox-requires : tie.Need-sbox-requires
-sbox-requires c κs = search needs
-
-constants-requires : tie.Need-constants-requires
-constants-requires c κs = search needs
-
 words-of-requires : tie.Need-words-of-requires
 words-of-requires c κs = search needs
 
-masked-requires : tie.Need-masked-requires
-masked-requires c κs = search needs
-
-words-of-requires-2 : tie.Need-words-of-requires-2
-words-of-requires-2 c κs = search needs
-
-slice-aggregate-all-sides : tie.Need-slice-aggregate-all-sides
-slice-aggregate-all-sides c = search needs
-
-slice-aggregate-all-sides-2 : tie.Need-slice-aggregate-all-sides-2
-slice-aggregate-all-sides-2 c = search needs
-
-all-sides-requires : tie.Need-all-sides-requires
-all-sides-requires c κs = search needs
+sides-from-requires : tie.Need-sides-from-requires
+sides-from-requires c κs = search needs
 
 same-length : tie.Need-same-length
 same-length c = search needs
 
 returns : tie.Need-returns
-returns c = let key = c .before .before .before .before .before .before .before .before .before .before .before .before .before .before .before .args .key .now in
-    (sides-state key (c .before .before .before .before .before .before .before .before .before .before .before .before .before .before .before .args .block .now) (c .before .before .before .before .before .before .before .before .before .words-of .ensures) (c .before .before .before .before .before .before .before .before .masked .ensures) (c .before .before .before .before .before .before .before .words-of2 .ensures) (c .before .before .before .all-sides .ensures .0), sides-keys key (c .before .before .before .before .before .before .before .before .before .words-of .ensures) (c .before .before .before .before .before .before .before .before .masked .ensures) (c .before .before .before .all-sides .ensures .1))
+returns c = let made = c .before .before .sides-from .ensures in
+    (made .0 ∙ ap (steps linear (roundKeys (c .before .before .before .before .before .before .before .before .args .key .now)) 32) (c .before .before .before .before .words-of .ensures), made .1)
 
 pub sides-of-spec : {M : Type 1} → statement M
 sides-of-spec =
-    tie.close
-    (tie.spec
-    sbox-requires
-    constants-requires
-    words-of-requires
-    masked-requires
-    words-of-requires-2
-    slice-aggregate-all-sides
-    slice-aggregate-all-sides-2
-    all-sides-requires
-    same-length
-    returns)
+    tie.close (tie.spec words-of-requires sides-from-requires same-length returns)
