@@ -68,7 +68,16 @@ same-length : tie.Need-same-length
 same-length c = search needs
 
 returns : tie.Need-returns
-returns c = all-sums _ _ _ _ _ _ _ _ _ (c .before .before .before .before .before .before .before .before .before .before .before .before .before .before .before .before .before .before .before .before .before .before .before .before .before .before .before .before .start .ensures) (c .before .before .before .before .before .before .before .before .before .before .before .before .before .before .before .before .before .before .before .before .before .before .before .before .before .before .before .spread .ensures .1) (c .before .before .before .before .before .before .before .before .before .before .before .before .before .before .before .before .before .before .before .before .before .before .before .early-rounds .ensures) (c .before .before .before .before .before .before .before .before .before .before .before .before .before .before .before .before .late-rounds .ensures) (c .before .before .before .before .before .before .before .before .before .last-rounds .ensures) (c .before .before .before .before .before .before .sum-at .ensures) (c .before .before .before .before .sum-at2 .ensures) (c .before .before .sum-at3 .ensures) (c .sum-at4 .ensures)
+returns c =
+    let start = c .before .before .before .before .before .before .before .before .before .before .before .before .before .before .before .before .before .before .before .before .before .before .before .before .before .before .before .before .start in
+    let spread = c .before .before .before .before .before .before .before .before .before .before .before .before .before .before .before .before .before .before .before .before .before .before .before .before .before .before .before .spread in
+    let early-rounds = c .before .before .before .before .before .before .before .before .before .before .before .before .before .before .before .before .before .before .before .before .before .before .before .early-rounds in
+    let late-rounds = c .before .before .before .before .before .before .before .before .before .before .before .before .before .before .before .before .late-rounds in
+    let last-rounds = c .before .before .before .before .before .before .before .before .before .last-rounds in
+    let sum-at = c .before .before .before .before .before .before .sum-at in
+    let sum-at2 = c .before .before .before .before .sum-at2 in
+    let sum-at3 = c .before .before .sum-at3 in
+    all-sums _ _ _ _ _ _ _ _ _ (start .ensures) (spread .ensures .1) (early-rounds .ensures) (late-rounds .ensures) (last-rounds .ensures) (sum-at .ensures) (sum-at2 .ensures) (sum-at3 .ensures) (c .sum-at4 .ensures)
 
 pub four-sums-spec : {M : Type 1} → statement M
 four-sums-spec =

@@ -20,7 +20,11 @@ same-length : tie.Need-same-length
 same-length c = search needs
 
 returns-2 : tie.Need-returns-2
-returns-2 c = (omega (arith, c .before .before .put .ensures .place), λ p h. extend-done (c .before .before .before .before .before .before .before .args .line .now) (c .before .before .before .before .before .before .before .args .n) (c .before .before .before .before .before .before .before .args .part .now) p h (c .before .before .before .before .if1 .left) (c .before .before .put .kept .0) (c .before .before .put .ensures))
+returns-2 c =
+    let args = c .before .before .before .before .before .before .before .args in
+    let if1 = c .before .before .before .before .if1 in
+    let put = c .before .before .put in
+    (omega (arith, put .ensures .place), λ p h. extend-done (args .line .now) (args .n) (args .part .now) p h (if1 .left) (put .kept .0) (put .ensures))
 
 pub extend-spec : {M : Type 1} → statement M
 extend-spec = tie.close (tie.spec add-if1 add-result returns put-requires same-length returns-2)

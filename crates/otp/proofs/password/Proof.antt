@@ -10,10 +10,15 @@ arguments-ok-requires : tie.Need-arguments-ok-requires
 arguments-ok-requires c κs = search needs
 
 returns : tie.Need-returns
-returns c = answer-refused (c .before .before .before .before .before .args .algorithm) (c .before .before .before .before .before .args .key .now) (c .before .before .before .before .before .args .time) (c .before .before .before .before .before .args .count) (c .before .before .before .before .before .args .challenge .now) (c .before .before .before .before .before .args .digits) (c .before .before .before .before .before .args .out .now) (sym (c .before .arguments-ok .ensures) ∙ not-true (c .before .arguments-ok .result) (c .if1 .taken))
+returns c =
+    let args = c .before .before .before .before .before .args in
+    answer-refused (args .algorithm) (args .key .now) (args .time) (args .count) (args .challenge .now) (args .digits) (args .out .now) (sym (c .before .arguments-ok .ensures) ∙ not-true (c .before .arguments-ok .result) (c .if1 .taken))
 
 returns-2 : tie.Need-returns-2
-returns-2 c = answer-short (c .before .before .before .before .before .before .args .algorithm) (c .before .before .before .before .before .before .args .key .now) (c .before .before .before .before .before .before .args .time) (c .before .before .before .before .before .before .args .count) (c .before .before .before .before .before .before .args .challenge .now) (c .before .before .before .before .before .before .args .digits) (c .before .before .before .before .before .before .args .out .now) (sym (c .before .before .arguments-ok .ensures) ∙ not-false (c .before .before .arguments-ok .result) (c .before .if1 .left)) (c .if2 .taken)
+returns-2 c =
+    let args = c .before .before .before .before .before .before .args in
+    let arguments-ok = c .before .before .arguments-ok in
+    answer-short (args .algorithm) (args .key .now) (args .time) (args .count) (args .challenge .now) (args .digits) (args .out .now) (sym (arguments-ok .ensures) ∙ not-false (arguments-ok .result) (c .before .if1 .left)) (c .if2 .taken)
 
 truncated-once-requires : tie.Need-truncated-once-requires
 truncated-once-requires c κs = (sym (c .before .before .arguments-ok .ensures) ∙ not-false (c .before .before .arguments-ok .result) (c .before .if1 .left))
@@ -25,7 +30,14 @@ same-length : tie.Need-same-length
 same-length c = search needs
 
 returns-3 : tie.Need-returns-3
-returns-3 c = answer-stored (c .before .before .before .before .before .before .before .before .before .before .before .args .algorithm) (c .before .before .before .before .before .before .before .before .before .before .before .args .key .now) (c .before .before .before .before .before .before .before .before .before .before .before .args .time) (c .before .before .before .before .before .before .before .before .before .before .before .args .count) (c .before .before .before .before .before .before .before .before .before .before .before .args .challenge .now) (c .before .before .before .before .before .before .before .before .before .before .before .args .digits) (c .before .before .before .before .before .before .before .before .before .before .before .args .out .now) (sym (c .before .before .before .before .before .before .before .arguments-ok .ensures) ∙ not-false (c .before .before .before .before .before .before .before .arguments-ok .result) (c .before .before .before .before .before .before .if1 .left)) (c .before .before .before .before .before .if2 .left) (c .before .before .put-decimals .ensures ∙ password-shown (c .before .before .before .before .before .before .before .before .before .before .before .args .algorithm) (c .before .before .before .before .before .before .before .before .before .before .before .args .key .now) (c .before .before .before .before .before .before .before .before .before .before .before .args .time) (c .before .before .before .before .before .before .before .before .before .before .before .args .count) (c .before .before .before .before .before .before .before .before .before .before .before .args .challenge .now) (c .before .before .before .before .before .before .before .before .before .before .before .args .digits) (drop (c .before .before .before .before .before .before .before .before .before .before .before .args .digits) (c .before .before .before .before .before .before .before .before .before .before .before .args .out .now)) (c .before .before .before .before .truncated-once .ensures))
+returns-3 c =
+    let args = c .before .before .before .before .before .before .before .before .before .before .before .args in
+    let arguments-ok = c .before .before .before .before .before .before .before .arguments-ok in
+    let if1 = c .before .before .before .before .before .before .if1 in
+    let if2 = c .before .before .before .before .before .if2 in
+    let truncated-once = c .before .before .before .before .truncated-once in
+    let put-decimals = c .before .before .put-decimals in
+    answer-stored (args .algorithm) (args .key .now) (args .time) (args .count) (args .challenge .now) (args .digits) (args .out .now) (sym (arguments-ok .ensures) ∙ not-false (arguments-ok .result) (if1 .left)) (if2 .left) (put-decimals .ensures ∙ password-shown (args .algorithm) (args .key .now) (args .time) (args .count) (args .challenge .now) (args .digits) (drop (args .digits) (args .out .now)) (truncated-once .ensures))
 
 pub password-spec : {M : Type 1} → statement M
 password-spec =

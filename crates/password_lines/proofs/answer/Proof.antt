@@ -15,7 +15,10 @@ refused-requires : tie.Need-refused-requires
 refused-requires c κs = search needs
 
 returns : tie.Need-returns
-returns c = c .refused .ensures ∙ ap printedOf (line-other (c .before .before .before .before .before .args .line .now) (other-fields (c .before .before .before .before .before .args .line .now) (c .before .before .before .split-six .ensures) (not-true (c .before .before .before .split-six .result .ok) (c .before .if1 .taken))))
+returns c =
+    let args = c .before .before .before .before .before .args in
+    let split-six = c .before .before .before .split-six in
+    c .refused .ensures ∙ ap printedOf (line-other (args .line .now) (other-fields (args .line .now) (split-six .ensures) (not-true (split-six .result .ok) (c .before .if1 .taken))))
 
 array-read-key-end : tie.Need-array-read-key-end
 array-read-key-end c = search needs
@@ -123,7 +126,11 @@ fields-answer-requires : tie.Need-fields-answer-requires
 fields-answer-requires c κs = search needs
 
 returns-2 : tie.Need-returns-2
-returns-2 c = c .fields-answer .ensures ∙ ap printedOf (line-six (c .before .before .before .before .before .before .before .before .before .before .before .before .args .line .now) (c .before .before .before .before .before .before .before .before .before .before .split-six .result .ends) (six-fields (c .before .before .before .before .before .before .before .before .before .before .before .before .args .line .now) (c .before .before .before .before .before .before .before .before .before .before .split-six .ensures) (not-false (c .before .before .before .before .before .before .before .before .before .before .split-six .result .ok) (c .before .before .before .before .before .before .before .before .if1 .left))))
+returns-2 c =
+    let args = c .before .before .before .before .before .before .before .before .before .before .before .before .args in
+    let split-six = c .before .before .before .before .before .before .before .before .before .before .split-six in
+    let if1 = c .before .before .before .before .before .before .before .before .if1 in
+    c .fields-answer .ensures ∙ ap printedOf (line-six (args .line .now) (split-six .result .ends) (six-fields (args .line .now) (split-six .ensures) (not-false (split-six .result .ok) (if1 .left))))
 
 pub answer-spec : {M : Type 1} → statement M
 answer-spec =

@@ -76,7 +76,16 @@ put-be-requires-8 : tie.Need-put-be-requires-8
 put-be-requires-8 c κs = search needs
 
 returns : tie.Need-returns
-returns c = digest-of (c .before .before .before .before .before .before .before .before .before .before .before .before .before .before .before .before .before .before .before .before .before .before .before .before .before .before .before .before .before .before .before .before .args .r) (c .before .before .before .before .before .before .before .before .before .before .before .before .before .before .before .before .before .before .before .before .before .before .before .before .before .before .before .before .before .put-be .ensures) (c .before .before .before .before .before .before .before .before .before .before .before .before .before .before .before .before .before .before .before .before .before .before .before .before .before .put-be2 .ensures) (c .before .before .before .before .before .before .before .before .before .before .before .before .before .before .before .before .before .before .before .before .before .put-be3 .ensures) (c .before .before .before .before .before .before .before .before .before .before .before .before .before .before .before .before .before .put-be4 .ensures) (c .before .before .before .before .before .before .before .before .before .before .before .before .before .put-be5 .ensures) (c .before .before .before .before .before .before .before .before .before .put-be6 .ensures) (c .before .before .before .before .before .put-be7 .ensures) (c .before .put-be8 .ensures)
+returns c =
+    let args = c .before .before .before .before .before .before .before .before .before .before .before .before .before .before .before .before .before .before .before .before .before .before .before .before .before .before .before .before .before .before .before .before .args in
+    let put-be = c .before .before .before .before .before .before .before .before .before .before .before .before .before .before .before .before .before .before .before .before .before .before .before .before .before .before .before .before .before .put-be in
+    let put-be2 = c .before .before .before .before .before .before .before .before .before .before .before .before .before .before .before .before .before .before .before .before .before .before .before .before .before .put-be2 in
+    let put-be3 = c .before .before .before .before .before .before .before .before .before .before .before .before .before .before .before .before .before .before .before .before .before .put-be3 in
+    let put-be4 = c .before .before .before .before .before .before .before .before .before .before .before .before .before .before .before .before .before .put-be4 in
+    let put-be5 = c .before .before .before .before .before .before .before .before .before .before .before .before .before .put-be5 in
+    let put-be6 = c .before .before .before .before .before .before .before .before .before .put-be6 in
+    let put-be7 = c .before .before .before .before .before .put-be7 in
+    digest-of (args .r) (put-be .ensures) (put-be2 .ensures) (put-be3 .ensures) (put-be4 .ensures) (put-be5 .ensures) (put-be6 .ensures) (put-be7 .ensures) (c .before .put-be8 .ensures)
 
 pub digest-spec : {M : Type 1} → statement M
 digest-spec =

@@ -45,7 +45,10 @@ digest-requires : tie.Need-digest-requires
 digest-requires c κs = search needs
 
 returns-2 : tie.Need-returns-2
-returns-2 c = answer-hashed (c .before .before .before .before .before .before .before .before .before .before .before .before .before .before .before .before .args .message .now) (omega (arith, c .before .before .before .before .before .before .before .before .before .before .before .before .before .before .if1 .left))
+returns-2 c =
+    let args = c .before .before .before .before .before .before .before .before .before .before .before .before .before .before .before .before .args in
+    let if1 = c .before .before .before .before .before .before .before .before .before .before .before .before .before .before .if1 in
+    answer-hashed (args .message .now) (omega (arith, if1 .left))
     (c .digest .ensures
     ∙ sm3-of (c .before .before .before .before .before .before .before .before .before .before .before .before .before .before .before .before .args .message .now) (replicate (128 - 64 * c .before .before .before .before .before .before .before .before .before .before .before .before .last-blocks .result) 0) (c .before .before .before .before .before .before .before .before .before .before .before .before .last-blocks .result) (c .before .before .before .before .before .before .before .before .before .before .before .before .last-blocks .ensures) (c .before .before .before .before .before .before .before .before .before .before .put-end .ensures)
     (c .before .before .before .before .before .before .iterate .ensures .0 ∙ rw (c .before .before .before .before .before .before .before .before .start .ensures))

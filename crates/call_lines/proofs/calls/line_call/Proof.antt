@@ -30,7 +30,11 @@ sub-number-at : tie.Need-sub-number-at
 sub-number-at c = let a = c .before .before .before .before .before .before .before .before .before .args in name-first (a .line .now) (c .before .before .before .before .before .before .if1 .left) (c .before .before .before .before .before .field .ensures) (c .before .before .before .before .name-of .ensures) (c .before .before .before .count-of .ensures) (c .before .before .has-fields .ensures) (c .before .if2 .left)
 
 number-at-requires-2 : tie.Need-number-at-requires-2
-number-at-requires-2 c κs = (let h = count-small (c .before .before .before .before .name-of .result) (c .before .before .before .count-of .ensures) in omega arith, c .before .before .before .before .before .before .if1 .left)
+number-at-requires-2 c κs =
+    let if1 = c .before .before .before .before .before .before .if1 in
+    let name-of = c .before .before .before .before .name-of in
+    let count-of = c .before .before .before .count-of in
+    (let h = count-small (name-of .result) (count-of .ensures) in omega arith, if1 .left)
 
 returns-3 : tie.Need-returns-3
 returns-3 c = let a = c .before .before .before .before .before .before .before .before .before .before .before .before .before .args in made-none passwordAt (a .table .now) (line-unread (a .line .now) (c .before .before .before .before .before .before .before .before .before .before .if1 .left) (c .before .before .before .before .before .before .before .before .before .field .ensures) (c .before .before .before .before .before .before .before .before .name-of .ensures) (c .before .before .before .before .before .before .before .count-of .ensures) (c .before .before .before .before .before .before .has-fields .ensures) (c .before .before .before .before .before .if2 .left) (c .before .before .before .before .number-at .result .value) (c .before .before .before .number-at2 .result .value) (c .before .before .before .before .number-at .result .ok) (c .before .before .before .number-at2 .result .ok) (c .before .before .before .before .number-at .ensures .0) (c .before .before .before .number-at2 .ensures .0) (c .if3 .taken))

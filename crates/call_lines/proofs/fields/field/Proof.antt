@@ -32,7 +32,11 @@ part-result-end-2 : tie.Need-part-result-end-2
 part-result-end-2 c = let h = field-bounds (c .before .before .before .before .args .line .now) (c .before .before .before .before .args .i) (c .before .before .start-of .ensures) (c .before .if1 .left) (c .field-at .ensures) in omega arith
 
 returns-2 : tie.Need-returns-2
-returns-2 c = field-there (c .before .before .before .before .before .args .line .now) (c .before .before .before .before .before .args .i) (c .before .before .before .start-of .ensures) (c .before .before .if1 .left) (c .before .field-at .ensures)
+returns-2 c =
+    let args = c .before .before .before .before .before .args in
+    let start-of = c .before .before .before .start-of in
+    let if1 = c .before .before .if1 in
+    field-there (args .line .now) (args .i) (start-of .ensures) (if1 .left) (c .before .field-at .ensures)
 
 pub field-spec : {M : Type 1} → statement M
 field-spec =

@@ -28,7 +28,11 @@ loop-less : tie.Need-loop-less Inv-loop μ-loop
 loop-less c = omega arith
 
 loop-again : tie.Need-loop-again Inv-loop μ-loop
-loop-again c = passed-more (c .before .before .before .before .before .args .line .now) (c .before .before .before .before .before .args .i) (c .before .before .before .loop .start) (c .before .before .before .loop .passed) (c .before .before .before .loop .inv) (c .before .before .loop-test .taken) (c .before .field-at .ensures)
+loop-again c =
+    let args = c .before .before .before .before .before .args in
+    let loop = c .before .before .before .loop in
+    let loop-test = c .before .before .loop-test in
+    passed-more (args .line .now) (args .i) (loop .start) (loop .passed) (loop .inv) (loop-test .taken) (c .before .field-at .ensures)
 
 returns : tie.Need-returns Inv-loop μ-loop
 returns c = passed-all (c .before .before .before .args .line .now) (c .before .before .before .args .i) (c .before .loop .start) (c .before .loop .passed) (c .before .loop .inv) (c .loop-test .left)

@@ -71,7 +71,18 @@ is-named-requires-11 c κs = search needs
 
 returns : tie.Need-returns
 unfolding nameOf
-returns c = rw (c .is-named11 .ensures, c .before .before .is-named10 .ensures, c .before .before .before .before .is-named9 .ensures, c .before .before .before .before .before .before .is-named8 .ensures, c .before .before .before .before .before .before .before .before .is-named7 .ensures, c .before .before .before .before .before .before .before .before .before .before .is-named6 .ensures, c .before .before .before .before .before .before .before .before .before .before .before .before .is-named5 .ensures, c .before .before .before .before .before .before .before .before .before .before .before .before .before .before .is-named4 .ensures, c .before .before .before .before .before .before .before .before .before .before .before .before .before .before .before .before .is-named3 .ensures, c .before .before .before .before .before .before .before .before .before .before .before .before .before .before .before .before .before .before .is-named2 .ensures, c .before .before .before .before .before .before .before .before .before .before .before .before .before .before .before .before .before .before .before .before .is-named .ensures)
+returns c =
+    let is-named = c .before .before .before .before .before .before .before .before .before .before .before .before .before .before .before .before .before .before .before .before .is-named in
+    let is-named2 = c .before .before .before .before .before .before .before .before .before .before .before .before .before .before .before .before .before .before .is-named2 in
+    let is-named3 = c .before .before .before .before .before .before .before .before .before .before .before .before .before .before .before .before .is-named3 in
+    let is-named4 = c .before .before .before .before .before .before .before .before .before .before .before .before .before .before .is-named4 in
+    let is-named5 = c .before .before .before .before .before .before .before .before .before .before .before .before .is-named5 in
+    let is-named6 = c .before .before .before .before .before .before .before .before .before .before .is-named6 in
+    let is-named7 = c .before .before .before .before .before .before .before .before .is-named7 in
+    let is-named8 = c .before .before .before .before .before .before .is-named8 in
+    let is-named9 = c .before .before .before .before .is-named9 in
+    let is-named10 = c .before .before .is-named10 in
+    rw (c .is-named11 .ensures, is-named10 .ensures, is-named9 .ensures, is-named8 .ensures, is-named7 .ensures, is-named6 .ensures, is-named5 .ensures, is-named4 .ensures, is-named3 .ensures, is-named2 .ensures, is-named .ensures)
 
 pub name-of-spec : {M : Type 1} → statement M
 name-of-spec =

@@ -20,10 +20,19 @@ enum-told : tie.Need-enum-told
 enum-told c = search needs
 
 returns : tie.Need-returns
-returns c = (success-text (c .before .before .before .before .before .before .args .answer) (c .before .before .before .before .before .number-of .ensures) (c .before .before .before .before .code-text .ensures) (c .before .before .answer .given .1) (c .put-content .ensures .1), c .put-content .ensures .0)
+returns c =
+    let args = c .before .before .before .before .before .before .args in
+    let number-of = c .before .before .before .before .before .number-of in
+    let code-text = c .before .before .before .before .code-text in
+    let answer = c .before .before .answer in
+    (success-text (args .answer) (number-of .ensures) (code-text .ensures) (answer .given .1) (c .put-content .ensures .1), c .put-content .ensures .0)
 
 returns-2 : tie.Need-returns-2
-returns-2 c = (refusal-text (c .before .before .before .before .args .answer) (c .before .before .before .number-of .ensures) (c .before .before .code-text .ensures) (c .enum-told .given .1), let h = code-length (c .before .before .before .before .args .answer) (c .before .before .before .number-of .ensures) (c .before .before .code-text .ensures) in omega arith)
+returns-2 c =
+    let args = c .before .before .before .before .args in
+    let number-of = c .before .before .before .number-of in
+    let code-text = c .before .before .code-text in
+    (refusal-text (args .answer) (number-of .ensures) (code-text .ensures) (c .enum-told .given .1), let h = code-length (args .answer) (number-of .ensures) (code-text .ensures) in omega arith)
 
 pub answer-text-spec : {M : Type 1} → statement M
 answer-text-spec =

@@ -42,7 +42,9 @@ array-write-bytes-2 : tie.Need-array-write-bytes-2 Inv-loop μ-loop
 array-write-bytes-2 c = c .before .loop .inv .within
 
 returns : tie.Need-returns Inv-loop μ-loop
-returns c = ((c .before .loop .inv .within, rw length-set (c .before .loop .inv .size)), stored-last (c .before .before .args .x) (c .before .loop .bytes) (c .before .loop .start) (c .before .loop .rest) (c .before .loop .inv) (c .loop-test .left))
+returns c =
+    let args = c .before .before .args in
+    ((c .before .loop .inv .within, rw length-set (c .before .loop .inv .size)), stored-last (args .x) (c .before .loop .bytes) (c .before .loop .start) (c .before .loop .rest) (c .before .loop .inv) (c .loop-test .left))
 
 pub digits-of-spec : {M : Type 1} → statement M
 digits-of-spec =

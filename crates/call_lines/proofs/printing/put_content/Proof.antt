@@ -38,10 +38,15 @@ returns : tie.Need-returns
 returns c = (omega arith, put-plain (c .enum-told .given .1))
 
 returns-2 : tie.Need-returns-2
-returns-2 c = (let few = decimal-few 19 (c .before .before .before .content .given .0 .0 .0) (omega arith) in let h = c .before .put-number .ensures .0 in let i = c .put-offset .ensures .0 in omega arith, put-checked (c .before .before .before .content .given .1) (c .before .put-number .ensures .1) (c .put-offset .ensures .1))
+returns-2 c =
+    let content = c .before .before .before .content in
+    (let few = decimal-few 19 (content .given .0 .0 .0) (omega arith) in let h = c .before .put-number .ensures .0 in let i = c .put-offset .ensures .0 in omega arith, put-checked (content .given .1) (c .before .put-number .ensures .1) (c .put-offset .ensures .1))
 
 returns-3 : tie.Need-returns-3
-returns-3 c = (let few = decimal-few 2 (c .before .before .before .before .before .before .content2 .given .0 .0 .state) (omega arith) in let more = decimal-few 2 (c .before .before .before .before .before .before .content2 .given .0 .0 .errors) (omega arith) in let most = decimal-few 19 (c .before .before .before .before .before .before .content2 .given .0 .0 .used .0) (omega arith) in let h = c .before .before .before .put-number2 .ensures .0 in let i = c .before .put-number3 .ensures .0 in let j = c .put-number4 .ensures .0 in omega arith, put-told (c .before .before .before .before .before .before .content2 .given .1) (c .before .before .before .put-number2 .ensures .1) (c .before .put-number3 .ensures .1) (c .put-number4 .ensures .1))
+returns-3 c =
+    let content2 = c .before .before .before .before .before .before .content2 in
+    let put-number2 = c .before .before .before .put-number2 in
+    (let few = decimal-few 2 (content2 .given .0 .0 .state) (omega arith) in let more = decimal-few 2 (content2 .given .0 .0 .errors) (omega arith) in let most = decimal-few 19 (content2 .given .0 .0 .used .0) (omega arith) in let h = put-number2 .ensures .0 in let i = c .before .put-number3 .ensures .0 in let j = c .put-number4 .ensures .0 in omega arith, put-told (content2 .given .1) (put-number2 .ensures .1) (c .before .put-number3 .ensures .1) (c .put-number4 .ensures .1))
 
 pub put-content-spec : {M : Type 1} → statement M
 put-content-spec =

@@ -17,10 +17,17 @@ part-put-end : tie.Need-part-put-end
 part-put-end c = let h = c .before .before .digits-of .ensures .0 .1 in omega arith
 
 put-requires : tie.Need-put-requires
-put-requires c κs = rw (digits-part (c .before .before .before .before .args .x) (c .before .before .before .digits-of .result .bytes) (c .before .before .before .digits-of .result .start) (c .before .before .before .digits-of .ensures .0 .1) (c .before .before .before .digits-of .ensures .1)) (c .before .before .before .before .pre)
+put-requires c κs =
+    let args = c .before .before .before .before .args in
+    let pre = c .before .before .before .before .pre in
+    let digits-of = c .before .before .before .digits-of in
+    rw (digits-part (args .x) (digits-of .result .bytes) (digits-of .result .start) (digits-of .ensures .0 .1) (digits-of .ensures .1)) (pre)
 
 returns : tie.Need-returns
-returns c = rw (digits-part (c .before .before .before .before .before .args .x) (c .before .before .before .before .digits-of .result .bytes) (c .before .before .before .before .digits-of .result .start) (c .before .before .before .before .digits-of .ensures .0 .1) (c .before .before .before .before .digits-of .ensures .1)) at (c .put .ensures)
+returns c =
+    let args = c .before .before .before .before .before .args in
+    let digits-of = c .before .before .before .before .digits-of in
+    rw (digits-part (args .x) (digits-of .result .bytes) (digits-of .result .start) (digits-of .ensures .0 .1) (digits-of .ensures .1)) at (c .put .ensures)
 
 pub put-decimal-spec : {M : Type 1} → statement M
 put-decimal-spec =

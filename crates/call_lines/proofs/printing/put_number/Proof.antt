@@ -17,7 +17,9 @@ put-decimal-requires : tie.Need-put-decimal-requires
 put-decimal-requires c κs = search needs
 
 returns : tie.Need-returns
-returns c = (let h = c .before .put .ensures .0 in let i = c .put-decimal .ensures .0 in omega arith, puts-both (comma ∷ []) (decimalText (c .before .before .before .args .x)) (c .before .put .ensures .1) (c .put-decimal .ensures .1))
+returns c =
+    let args = c .before .before .before .args in
+    (let h = c .before .put .ensures .0 in let i = c .put-decimal .ensures .0 in omega arith, puts-both (comma ∷ []) (decimalText (args .x)) (c .before .put .ensures .1) (c .put-decimal .ensures .1))
 
 pub put-number-spec : {M : Type 1} → statement M
 put-number-spec =

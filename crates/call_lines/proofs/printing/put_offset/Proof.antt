@@ -13,7 +13,9 @@ put-number-requires : tie.Need-put-number-requires
 put-number-requires c κs = let few = decimal-few 4 (c .before .before .args .offset .0 - farthest) (omega arith) in omega arith
 
 returns : tie.Need-returns
-returns c = (let few = decimal-few 4 (c .before .before .before .args .offset .0 - farthest) (omega arith) in let h = c .put-number .ensures .0 in omega arith, offset-plus (c .before .before .before .args .text) (c .before .before .before .args .offset) (c .before .if1 .taken) (c .put-number .ensures .1))
+returns c =
+    let args = c .before .before .before .args in
+    (let few = decimal-few 4 (args .offset .0 - farthest) (omega arith) in let h = c .put-number .ensures .0 in omega arith, offset-plus (args .text) (args .offset) (c .before .if1 .taken) (c .put-number .ensures .1))
 
 slice-aggregate-put : tie.Need-slice-aggregate-put
 slice-aggregate-put c = search needs
@@ -28,7 +30,10 @@ put-decimal-requires : tie.Need-put-decimal-requires
 put-decimal-requires c κs = let few = decimal-few 2 (farthest - c .before .before .before .before .args .offset .0) (omega arith) in let h = c .put .ensures .0 in omega arith
 
 returns-2 : tie.Need-returns-2
-returns-2 c = (let few = decimal-few 2 (farthest - c .before .before .before .before .before .args .offset .0) (omega arith) in let h = c .before .put .ensures .0 in let i = c .put-decimal .ensures .0 in omega arith, offset-minus (c .before .before .before .before .before .args .text) (c .before .before .before .before .before .args .offset) (c .before .before .before .if1 .left) (c .before .put .ensures .1) (c .put-decimal .ensures .1))
+returns-2 c =
+    let args = c .before .before .before .before .before .args in
+    let if1 = c .before .before .before .if1 in
+    (let few = decimal-few 2 (farthest - args .offset .0) (omega arith) in let h = c .before .put .ensures .0 in let i = c .put-decimal .ensures .0 in omega arith, offset-minus (args .text) (args .offset) (if1 .left) (c .before .put .ensures .1) (c .put-decimal .ensures .1))
 
 pub put-offset-spec : {M : Type 1} → statement M
 put-offset-spec =

@@ -18,13 +18,27 @@ enum-told : tie.Need-enum-told
 enum-told c = search needs
 
 returns : tie.Need-returns
-returns c = (number-bad (c .before .before .before .before .before .args .most) (c .before .before .before .field .ensures) (search needs) (sym (c .before .before .decimal .ensures) ∙ c .enum-told .given .1), omega arith)
+returns c =
+    let args = c .before .before .before .before .before .args in
+    let field = c .before .before .before .field in
+    let decimal = c .before .before .decimal in
+    (number-bad (args .most) (field .ensures) (search needs) (sym (decimal .ensures) ∙ c .enum-told .given .1), omega arith)
 
 returns-2 : tie.Need-returns-2
-returns-2 c = (number-within (c .before .before .before .before .before .before .before .args .most) (c .before .before .before .before .before .field .ensures) (sym (c .before .before .before .before .decimal .ensures) ∙ c .before .before .x .given .1) (c .if1 .taken), c .if1 .taken)
+returns-2 c =
+    let args = c .before .before .before .before .before .before .before .args in
+    let field = c .before .before .before .before .before .field in
+    let decimal = c .before .before .before .before .decimal in
+    let x = c .before .before .x in
+    (number-within (args .most) (field .ensures) (sym (decimal .ensures) ∙ x .given .1) (c .if1 .taken), c .if1 .taken)
 
 returns-3 : tie.Need-returns-3
-returns-3 c = (number-above (c .before .before .before .before .before .before .before .args .most) (c .before .before .before .before .before .field .ensures) (sym (c .before .before .before .before .decimal .ensures) ∙ c .before .before .x .given .1) (c .if1 .left), omega arith)
+returns-3 c =
+    let args = c .before .before .before .before .before .before .before .args in
+    let field = c .before .before .before .before .before .field in
+    let decimal = c .before .before .before .before .decimal in
+    let x = c .before .before .x in
+    (number-above (args .most) (field .ensures) (sym (decimal .ensures) ∙ x .given .1) (c .if1 .left), omega arith)
 
 pub number-at-spec : {M : Type 1} → statement M
 number-at-spec =

@@ -28,7 +28,10 @@ mul-out-2 : tie.Need-mul-out-2 Inv-loop μ-loop
 mul-out-2 c = search needs
 
 slice-write-out : tie.Need-slice-write-out Inv-loop μ-loop
-slice-write-out c = rw (c .before .before .loop .inv .1, length-append, length-take-le (c .before .before .loop .i) (c .before .before .before .args .result .now) (c .before .before .loop .inv .0), length-drop) (omega arith)
+slice-write-out c =
+    let args = c .before .before .before .args in
+    let loop = c .before .before .loop in
+    rw (loop .inv .1, length-append, length-take-le (loop .i) (args .result .now) (loop .inv .0), length-drop) (omega arith)
 
 add-i : tie.Need-add-i Inv-loop μ-loop
 add-i c = search needs
@@ -37,7 +40,10 @@ loop-less : tie.Need-loop-less Inv-loop μ-loop
 loop-less c = search needs
 
 loop-again : tie.Need-loop-again Inv-loop μ-loop
-loop-again c = (search needs, rw (c .before .before .loop .inv .1) (copy-more (c .before .before .before .args .result .now) (c .before .before .before .args .out .now) (c .before .before .loop .i) (c .before .loop-test .taken) (omega arith)))
+loop-again c =
+    let args = c .before .before .before .args in
+    let loop = c .before .before .loop in
+    (search needs, rw (loop .inv .1) (copy-more (args .result .now) (args .out .now) (loop .i) (c .before .loop-test .taken) (omega arith)))
 
 same-length : tie.Need-same-length Inv-loop μ-loop
 same-length c = rw (c .before .loop .inv .1, length-append, length-take-le (c .before .loop .i) (c .before .before .args .result .now) (c .before .loop .inv .0), length-drop) (omega arith)

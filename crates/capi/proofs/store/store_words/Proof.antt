@@ -16,7 +16,12 @@ same-length : tie.Need-same-length
 same-length c = search needs
 
 returns-3 : tie.Need-returns-3
-returns-3 c = stored-whole (c .before .before .before .before .before .before .before .before .args .code) (c .before .before .before .before .before .before .before .before .args .result .now) (c .before .before .before .before .before .before .before .before .args .out .now) (c .before .before .before .before .before .if1 .left) (c .before .before .before .before .if2 .left) (c .before .before .copy-words .ensures)
+returns-3 c =
+    let args = c .before .before .before .before .before .before .before .before .args in
+    let if1 = c .before .before .before .before .before .if1 in
+    let if2 = c .before .before .before .before .if2 in
+    let copy-words = c .before .before .copy-words in
+    stored-whole (args .code) (args .result .now) (args .out .now) (if1 .left) (if2 .left) (copy-words .ensures)
 
 pub store-words-spec : {M : Type 1} → statement M
 store-words-spec = tie.close (tie.spec returns returns-2 copy-words-requires same-length returns-3)

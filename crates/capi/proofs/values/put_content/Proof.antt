@@ -45,13 +45,21 @@ same-length : tie.Need-same-length
 same-length c = search needs
 
 returns-2 : tie.Need-returns-2
-returns-2 c = rw (c .before .before .content .given .1) (checked-written (c .before .before .before .before .before .args .values .now) (c .before .before .before .before .before .pre) (c .before .before .content .given .0 .0) (c .before .before .content .given .0 .1 .0) (c .signed .ensures))
+returns-2 c =
+    let args = c .before .before .before .before .before .args in
+    let pre = c .before .before .before .before .before .pre in
+    let content = c .before .before .content in
+    rw (content .given .1) (checked-written (args .values .now) (pre) (content .given .0 .0) (content .given .0 .1 .0) (c .signed .ensures))
 
 same-length-2 : tie.Need-same-length-2
 same-length-2 c = search needs
 
 returns-3 : tie.Need-returns-3
-returns-3 c = rw (c .before .before .before .content2 .given .1) (told-written (c .before .before .before .before .before .before .args .values .now) (c .before .before .before .before .before .before .pre) (c .before .before .before .content2 .given .0 .0))
+returns-3 c =
+    let args = c .before .before .before .before .before .before .args in
+    let pre = c .before .before .before .before .before .before .pre in
+    let content2 = c .before .before .before .content2 in
+    rw (content2 .given .1) (told-written (args .values .now) (pre) (content2 .given .0 .0))
 
 pub put-content-spec : {M : Type 1} → statement M
 put-content-spec =

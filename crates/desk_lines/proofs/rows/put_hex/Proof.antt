@@ -34,7 +34,11 @@ add-out : tie.Need-add-out Inv-loop μ-loop
 add-out c = search needs
 
 slice-write-out-2 : tie.Need-slice-write-out-2 Inv-loop μ-loop
-slice-write-out-2 c = rw length-set (omega (arith, c .before .before .before .before .loop .inv .place, c .before .before .before .before .loop .inv .size, c .before .before .before .loop-test .taken, c .before .before .before .before .before .before .before .pre))
+slice-write-out-2 c =
+    let pre = c .before .before .before .before .before .before .before .pre in
+    let loop = c .before .before .before .before .loop in
+    let loop-test = c .before .before .before .loop-test in
+    rw length-set (omega (arith, loop .inv .place, loop .inv .size, loop-test .taken, pre))
 
 add-end : tie.Need-add-end Inv-loop μ-loop
 add-end c = search needs
@@ -46,13 +50,20 @@ loop-less : tie.Need-loop-less Inv-loop μ-loop
 loop-less c = omega (arith, c .before .before .before .loop-test .taken)
 
 loop-again : tie.Need-loop-again Inv-loop μ-loop
-loop-again c = hexed-more (c .before .before .before .before .before .before .before .args .out .now) (c .before .before .before .before .before .before .before .args .at) (c .before .before .before .before .before .before .before .args .bytes .now) (c .before .before .before .before .loop .out) (c .before .before .before .before .loop .end) (c .before .before .before .before .loop .i) (c .before .before .before .before .loop .inv) (c .before .before .before .loop-test .taken) (omega (arith, c .before .before .before .before .loop .inv .place, c .before .before .before .before .loop .inv .size, c .before .before .before .loop-test .taken, c .before .before .before .before .before .before .before .pre)) (c .before .hex-digit .ensures) (c .hex-digit2 .ensures)
+loop-again c =
+    let args = c .before .before .before .before .before .before .before .args in
+    let pre = c .before .before .before .before .before .before .before .pre in
+    let loop = c .before .before .before .before .loop in
+    let loop-test = c .before .before .before .loop-test in
+    hexed-more (args .out .now) (args .at) (args .bytes .now) (loop .out) (loop .end) (loop .i) (loop .inv) (loop-test .taken) (omega (arith, loop .inv .place, loop .inv .size, loop-test .taken, pre)) (c .before .hex-digit .ensures) (c .hex-digit2 .ensures)
 
 same-length : tie.Need-same-length Inv-loop μ-loop
 same-length c = search needs
 
 returns : tie.Need-returns Inv-loop μ-loop
-returns c = hexed-all (c .before .before .before .before .args .out .now) (c .before .before .before .before .args .at) (c .before .before .before .before .args .bytes .now) (c .before .loop .out) (c .before .loop .end) (c .before .loop .i) (c .before .loop .inv) (c .loop-test .left)
+returns c =
+    let args = c .before .before .before .before .args in
+    hexed-all (args .out .now) (args .at) (args .bytes .now) (c .before .loop .out) (c .before .loop .end) (c .before .loop .i) (c .before .loop .inv) (c .loop-test .left)
 
 pub put-hex-spec : {M : Type 1} → statement M
 put-hex-spec =

@@ -30,13 +30,31 @@ part-put-hex-end : tie.Need-part-put-hex-end Inv-loop μ-loop
 part-put-hex-end c = omega (arith, c .before .loop-test .taken, c .before .before .before .before .before .pre)
 
 put-hex-requires : tie.Need-put-hex-requires Inv-loop μ-loop
-put-hex-requires c κs = row-room (c .before .before .before .before .before .before .args .out .now) (c .before .before .before .before .before .before .args .at) (c .before .before .before .before .before .before .args .table .now) (c .before .before .before .before .before .before .args .rows) (c .before .before .before .loop .out) (c .before .before .before .loop .end) (c .before .before .before .loop .i) (c .before .before .before .loop .inv) (c .before .before .loop-test .taken) (c .before .before .before .before .before .before .pre .0) (c .before .before .before .before .before .before .pre .1)
+put-hex-requires c κs =
+    let args = c .before .before .before .before .before .before .args in
+    let pre = c .before .before .before .before .before .before .pre in
+    let loop = c .before .before .before .loop in
+    let loop-test = c .before .before .loop-test in
+    row-room (args .out .now) (args .at) (args .table .now) (args .rows) (loop .out) (loop .end) (loop .i) (loop .inv) (loop-test .taken) (pre .0) (pre .1)
 
 slice-write-out : tie.Need-slice-write-out Inv-loop μ-loop
-slice-write-out c = row-within (c .before .before .before .before .before .before .before .before .before .args .out .now) (c .before .before .before .before .before .before .before .before .before .args .at) (c .before .before .before .before .before .before .before .before .before .args .table .now) (c .before .before .before .before .before .before .before .before .before .args .rows) (c .before .before .before .before .before .before .loop .out) (c .before .before .before .before .before .before .loop .end) (c .before .before .before .before .before .before .loop .i) (c .before .before .before .before .before .before .loop .inv) (c .before .before .before .before .before .loop-test .taken) (c .before .before .before .before .before .before .before .before .before .pre .0) (c .before .before .before .before .before .before .before .before .before .pre .1) (c .before .before .put-hex .kept .0) (c .before .before .put-hex .ensures)
+slice-write-out c =
+    let args = c .before .before .before .before .before .before .before .before .before .args in
+    let pre = c .before .before .before .before .before .before .before .before .before .pre in
+    let loop = c .before .before .before .before .before .before .loop in
+    let loop-test = c .before .before .before .before .before .loop-test in
+    let put-hex = c .before .before .put-hex in
+    row-within (args .out .now) (args .at) (args .table .now) (args .rows) (loop .out) (loop .end) (loop .i) (loop .inv) (loop-test .taken) (pre .0) (pre .1) (put-hex .kept .0) (put-hex .ensures)
 
 add-end : tie.Need-add-end Inv-loop μ-loop
-add-end c = omega (arith, row-within (c .before .before .before .before .before .before .before .before .before .args .out .now) (c .before .before .before .before .before .before .before .before .before .args .at) (c .before .before .before .before .before .before .before .before .before .args .table .now) (c .before .before .before .before .before .before .before .before .before .args .rows) (c .before .before .before .before .before .before .loop .out) (c .before .before .before .before .before .before .loop .end) (c .before .before .before .before .before .before .loop .i) (c .before .before .before .before .before .before .loop .inv) (c .before .before .before .before .before .loop-test .taken) (c .before .before .before .before .before .before .before .before .before .pre .0) (c .before .before .before .before .before .before .before .before .before .pre .1) (c .before .before .put-hex .kept .0) (c .before .before .put-hex .ensures), c .before .before .put-hex .kept .0, c .before .before .before .before .before .before .loop .inv .size, c .before .before .before .before .before .before .before .before .before .good)
+add-end c =
+    let args = c .before .before .before .before .before .before .before .before .before .args in
+    let pre = c .before .before .before .before .before .before .before .before .before .pre in
+    let good = c .before .before .before .before .before .before .before .before .before .good in
+    let loop = c .before .before .before .before .before .before .loop in
+    let loop-test = c .before .before .before .before .before .loop-test in
+    let put-hex = c .before .before .put-hex in
+    omega (arith, row-within (args .out .now) (args .at) (args .table .now) (args .rows) (loop .out) (loop .end) (loop .i) (loop .inv) (loop-test .taken) (pre .0) (pre .1) (put-hex .kept .0) (put-hex .ensures), put-hex .kept .0, loop .inv .size, good)
 
 add-i : tie.Need-add-i Inv-loop μ-loop
 add-i c = search needs
@@ -45,13 +63,21 @@ loop-less : tie.Need-loop-less Inv-loop μ-loop
 loop-less c = omega (arith, c .before .before .before .before .before .loop-test .taken)
 
 loop-again : tie.Need-loop-again Inv-loop μ-loop
-loop-again c = rowed-more (c .before .before .before .before .before .before .before .before .before .args .out .now) (c .before .before .before .before .before .before .before .before .before .args .at) (c .before .before .before .before .before .before .before .before .before .args .table .now) (c .before .before .before .before .before .before .before .before .before .args .rows) (c .before .before .before .before .before .before .loop .out) (c .before .before .before .before .before .before .loop .end) (c .before .before .before .before .before .before .loop .i) (c .before .before .before .before .before .before .loop .inv) (c .before .before .before .before .before .loop-test .taken) (c .before .before .before .before .before .before .before .before .before .pre .0) (c .before .before .before .before .before .before .before .before .before .pre .1) (c .before .before .put-hex .kept .0) (c .before .before .put-hex .ensures)
+loop-again c =
+    let args = c .before .before .before .before .before .before .before .before .before .args in
+    let pre = c .before .before .before .before .before .before .before .before .before .pre in
+    let loop = c .before .before .before .before .before .before .loop in
+    let loop-test = c .before .before .before .before .before .loop-test in
+    let put-hex = c .before .before .put-hex in
+    rowed-more (args .out .now) (args .at) (args .table .now) (args .rows) (loop .out) (loop .end) (loop .i) (loop .inv) (loop-test .taken) (pre .0) (pre .1) (put-hex .kept .0) (put-hex .ensures)
 
 same-length : tie.Need-same-length Inv-loop μ-loop
 same-length c = search needs
 
 returns : tie.Need-returns Inv-loop μ-loop
-returns c = rowed-all (c .before .before .before .before .args .out .now) (c .before .before .before .before .args .at) (c .before .before .before .before .args .table .now) (c .before .before .before .before .args .rows) (c .before .loop .out) (c .before .loop .end) (c .before .loop .i) (c .before .loop .inv) (c .loop-test .left)
+returns c =
+    let args = c .before .before .before .before .args in
+    rowed-all (args .out .now) (args .at) (args .table .now) (args .rows) (c .before .loop .out) (c .before .loop .end) (c .before .loop .i) (c .before .loop .inv) (c .loop-test .left)
 
 pub put-rows-spec : {M : Type 1} → statement M
 put-rows-spec =

@@ -44,13 +44,33 @@ enum-told : tie.Need-enum-told
 enum-told c = search needs
 
 returns-3 : tie.Need-returns-3
-returns-3 c = (rows-unread (c .before .before .before .before .before .before .before .before .before .before .args .line .now) (c .before .before .before .before .before .before .before .before .before .before .pre) (c .before .before .before .before .before .same .ensures) (c .before .before .before .before .if2 .left) (c .before .before .decimal .ensures) (c .enum-told .given .1), omega arith)
+returns-3 c =
+    let args = c .before .before .before .before .before .before .before .before .before .before .args in
+    let pre = c .before .before .before .before .before .before .before .before .before .before .pre in
+    let same = c .before .before .before .before .before .same in
+    let if2 = c .before .before .before .before .if2 in
+    let decimal = c .before .before .decimal in
+    (rows-unread (args .line .now) (pre) (same .ensures) (if2 .left) (decimal .ensures) (c .enum-told .given .1), omega arith)
 
 returns-4 : tie.Need-returns-4
-returns-4 c = (rows-many (c .before .before .before .before .before .before .before .before .before .before .before .before .args .line .now) (c .before .before .before .before .before .before .before .before .before .before .before .before .pre) (c .before .before .before .before .before .before .before .same .ensures) (c .before .before .before .before .before .before .if2 .left) (c .before .before .before .before .decimal .ensures) (c .before .before .n .given .1) (c .if3 .taken), omega arith)
+returns-4 c =
+    let args = c .before .before .before .before .before .before .before .before .before .before .before .before .args in
+    let pre = c .before .before .before .before .before .before .before .before .before .before .before .before .pre in
+    let same = c .before .before .before .before .before .before .before .same in
+    let if2 = c .before .before .before .before .before .before .if2 in
+    let decimal = c .before .before .before .before .decimal in
+    let n = c .before .before .n in
+    (rows-many (args .line .now) (pre) (same .ensures) (if2 .left) (decimal .ensures) (n .given .1) (c .if3 .taken), omega arith)
 
 returns-5 : tie.Need-returns-5
-returns-5 c = (rows-right (c .before .before .before .before .before .before .before .before .before .before .before .before .args .line .now) (c .before .before .before .before .before .before .before .before .before .before .before .before .pre) (c .before .before .before .before .before .before .before .same .ensures) (c .before .before .before .before .before .before .if2 .left) (c .before .before .before .before .decimal .ensures) (c .before .before .n .given .1) (c .if3 .left), c .if3 .left)
+returns-5 c =
+    let args = c .before .before .before .before .before .before .before .before .before .before .before .before .args in
+    let pre = c .before .before .before .before .before .before .before .before .before .before .before .before .pre in
+    let same = c .before .before .before .before .before .before .before .same in
+    let if2 = c .before .before .before .before .before .before .if2 in
+    let decimal = c .before .before .before .before .decimal in
+    let n = c .before .before .n in
+    (rows-right (args .line .now) (pre) (same .ensures) (if2 .left) (decimal .ensures) (n .given .1) (c .if3 .left), c .if3 .left)
 
 pub rows-of-spec : {M : Type 1} → statement M
 rows-of-spec =

@@ -18,7 +18,10 @@ part-put-start : tie.Need-part-put-start
 part-put-start c = search needs
 
 part-put-end : tie.Need-part-put-end
-part-put-end c = told-within (lineAfter passwordAt (c .before .before .before .before .before .before .before .before .before .before .args .line .now) (c .before .before .before .before .before .before .before .before .before .before .args .table .now) .text) (c .before .before .before .before .before .serve-line .ensures .0)
+part-put-end c =
+    let args = c .before .before .before .before .before .before .before .before .before .before .args in
+    let serve-line = c .before .before .before .before .before .serve-line in
+    told-within (lineAfter passwordAt (args .line .now) (args .table .now) .text) (serve-line .ensures .0)
 
 put-requires : tie.Need-put-requires
 put-requires c κs = search needs

@@ -27,7 +27,13 @@ same-length : tie.Need-same-length
 same-length c = search needs
 
 returns : tie.Need-returns
-returns c = ((c .before .before .before .before .before .asked-rows .ensures .1, omega arith), rows-made passwordAt (c .before .before .before .before .before .before .before .before .before .args .stage .fresh) (c .before .before .before .before .before .before .before .before .before .args .stage .rows) (c .before .before .before .before .before .before .before .before .before .args .line .now) (c .before .before .before .before .before .before .before .before .before .args .table .now) (c .before .before .before .before .before .asked-rows .ensures .0) (c .before .before .before .before .before .before .before .before .before .args .out .now) (c .before .before .before .before .before .before .before .before .before .args .at) (c .before .before .before .before .if1 .taken) (omega (arith, c .before .before .before .before .before .asked-rows .ensures .1, c .before .before .before .before .before .before .before .before .before .pre)) (c .before .before .clear .ensures))
+returns c =
+    let args = c .before .before .before .before .before .before .before .before .before .args in
+    let pre = c .before .before .before .before .before .before .before .before .before .pre in
+    let asked-rows = c .before .before .before .before .before .asked-rows in
+    let if1 = c .before .before .before .before .if1 in
+    let clear = c .before .before .clear in
+    ((asked-rows .ensures .1, omega arith), rows-made passwordAt (args .stage .fresh) (args .stage .rows) (args .line .now) (args .table .now) (asked-rows .ensures .0) (args .out .now) (args .at) (if1 .taken) (omega (arith, asked-rows .ensures .1, pre)) (clear .ensures))
 
 mul-size-2 : tie.Need-mul-size-2
 mul-size-2 c = search needs
@@ -51,7 +57,13 @@ same-length-3 : tie.Need-same-length-3
 same-length-3 c = search needs
 
 returns-2 : tie.Need-returns-2
-returns-2 c = ((c .before .before .before .before .before .before .before .before .before .before .before .before .before .pre .1 .0, c .before .before .before .before .serve-later .ensures .0), line-made passwordAt (c .before .before .before .before .before .before .before .before .before .before .before .before .before .args .stage .fresh) (c .before .before .before .before .before .before .before .before .before .before .before .before .before .args .stage .rows) (c .before .before .before .before .before .before .before .before .before .before .before .before .before .args .line .now) (c .before .before .before .before .before .before .before .before .before .before .before .before .before .args .table .now) (c .before .before .before .before .before .before .before .before .before .asked-rows .ensures .0) (c .before .before .before .before .before .before .before .before .if1 .left) (omega (arith, c .before .before .before .before .before .before .before .before .before .before .before .before .before .pre)) (c .before .before .before .before .serve-later .kept .0) (c .before .before .before .before .serve-later .ensures .1 .0) (c .before .before .before .before .serve-later .ensures .1 .1))
+returns-2 c =
+    let pre = c .before .before .before .before .before .before .before .before .before .before .before .before .before .pre in
+    let args = c .before .before .before .before .before .before .before .before .before .before .before .before .before .args in
+    let asked-rows = c .before .before .before .before .before .before .before .before .before .asked-rows in
+    let if1 = c .before .before .before .before .before .before .before .before .if1 in
+    let serve-later = c .before .before .before .before .serve-later in
+    ((pre .1 .0, serve-later .ensures .0), line-made passwordAt (args .stage .fresh) (args .stage .rows) (args .line .now) (args .table .now) (asked-rows .ensures .0) (if1 .left) (omega (arith, pre)) (serve-later .kept .0) (serve-later .ensures .1 .0) (serve-later .ensures .1 .1))
 
 pub serve-spec : {M : Type 1} → statement M
 serve-spec =

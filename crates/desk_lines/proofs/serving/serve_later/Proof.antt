@@ -21,7 +21,13 @@ same-length-2 : tie.Need-same-length-2
 same-length-2 c = search needs
 
 returns : tie.Need-returns
-returns c = (omega (arith, c .before .before .put-rows .ensures .1, c .before .before .before .before .before .before .before .before .before .before .before .pre), table-printed passwordAt (c .before .before .before .before .before .before .before .before .before .before .before .args .line .now) (c .before .before .before .before .before .before .before .before .before .before .before .args .table .now) (c .before .before .before .before .before .before .before .before .before .before .before .args .rows) (c .before .before .before .before .before .before .before .before .before .before .before .pre .0) (c .before .before .before .before .before .before .same .ensures) (c .before .before .before .before .before .if1 .taken) (c .before .before .put-rows .ensures .0))
+returns c =
+    let pre = c .before .before .before .before .before .before .before .before .before .before .before .pre in
+    let args = c .before .before .before .before .before .before .before .before .before .before .before .args in
+    let same = c .before .before .before .before .before .before .same in
+    let if1 = c .before .before .before .before .before .if1 in
+    let put-rows = c .before .before .put-rows in
+    (omega (arith, put-rows .ensures .1, pre), table-printed passwordAt (args .line .now) (args .table .now) (args .rows) (pre .0) (same .ensures) (if1 .taken) (put-rows .ensures .0))
 
 put-answer-requires : tie.Need-put-answer-requires
 put-answer-requires c κs = search needs
@@ -33,7 +39,13 @@ same-length-4 : tie.Need-same-length-4
 same-length-4 c = search needs
 
 returns-2 : tie.Need-returns-2
-returns-2 c = (omega (arith, c .before .before .before .before .put-answer .ensures .0), call-printed passwordAt (c .before .before .before .before .before .before .before .before .before .before .before .before .before .args .line .now) (c .before .before .before .before .before .before .before .before .before .before .before .before .before .args .table .now) (c .before .before .before .before .before .before .before .before .before .before .before .before .before .args .rows) (c .before .before .before .before .before .before .before .before .before .before .before .before .before .pre .0) (c .before .before .before .before .before .before .before .before .same .ensures) (c .before .before .before .before .before .before .before .if1 .left) (c .before .before .before .before .put-answer .ensures .1 .0) (c .before .before .before .before .put-answer .ensures .1 .1))
+returns-2 c =
+    let args = c .before .before .before .before .before .before .before .before .before .before .before .before .before .args in
+    let pre = c .before .before .before .before .before .before .before .before .before .before .before .before .before .pre in
+    let same = c .before .before .before .before .before .before .before .before .same in
+    let if1 = c .before .before .before .before .before .before .before .if1 in
+    let put-answer = c .before .before .before .before .put-answer in
+    (omega (arith, put-answer .ensures .0), call-printed passwordAt (args .line .now) (args .table .now) (args .rows) (pre .0) (same .ensures) (if1 .left) (put-answer .ensures .1 .0) (put-answer .ensures .1 .1))
 
 pub serve-later-spec : {M : Type 1} → statement M
 serve-later-spec =

@@ -15,7 +15,12 @@ same-length : tie.Need-same-length
 same-length c = search needs
 
 returns : tie.Need-returns
-returns c = ((c .before .before .before .before .before .before .before .before .before .pre .1 .1 .0, omega (arith, c .before .before .put .ensures .place)), λ p h. pending-long passwordAt (c .before .before .before .before .before .before .before .before .before .args .line .now) (c .before .before .before .before .before .before .before .before .before .args .n) (c .before .before .before .before .before .before .before .before .before .pre .0) p h (c .before .before .before .before .before .before .before .before .before .args .stage .fresh) (c .before .before .before .before .before .before .before .before .before .args .stage .rows) (c .before .before .before .before .before .before .before .before .before .args .table .now) (c .before .before .before .before .before .if1 .taken) (c .before .before .put .ensures))
+returns c =
+    let pre = c .before .before .before .before .before .before .before .before .before .pre in
+    let args = c .before .before .before .before .before .before .before .before .before .args in
+    let if1 = c .before .before .before .before .before .if1 in
+    let put = c .before .before .put in
+    ((pre .1 .1 .0, omega (arith, put .ensures .place)), λ p h. pending-long passwordAt (args .line .now) (args .n) (pre .0) p h (args .stage .fresh) (args .stage .rows) (args .table .now) (if1 .taken) (put .ensures))
 
 sub-serve : tie.Need-sub-serve
 sub-serve c = search needs
@@ -36,7 +41,12 @@ same-length-3 : tie.Need-same-length-3
 same-length-3 c = search needs
 
 returns-2 : tie.Need-returns-2
-returns-2 c = (c .before .before .before .before .serve .ensures .0, λ p h. pending-short passwordAt (c .before .before .before .before .before .before .before .before .before .before .before .before .args .line .now) (c .before .before .before .before .before .before .before .before .before .before .before .before .args .n) (c .before .before .before .before .before .before .before .before .before .before .before .before .pre .0) p h (c .before .before .before .before .before .before .before .before .if1 .left) (c .before .before .before .before .serve .ensures .1))
+returns-2 c =
+    let args = c .before .before .before .before .before .before .before .before .before .before .before .before .args in
+    let pre = c .before .before .before .before .before .before .before .before .before .before .before .before .pre in
+    let if1 = c .before .before .before .before .before .before .before .before .if1 in
+    let serve = c .before .before .before .before .serve in
+    (serve .ensures .0, λ p h. pending-short passwordAt (args .line .now) (args .n) (pre .0) p h (if1 .left) (serve .ensures .1))
 
 pub serve-pending-spec : {M : Type 1} → statement M
 serve-pending-spec =

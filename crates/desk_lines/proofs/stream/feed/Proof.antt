@@ -25,7 +25,12 @@ same-length : tie.Need-same-length
 same-length c = search needs
 
 returns : tie.Need-returns
-returns c = ((c .before .before .before .before .before .before .find .ensures .1, (λ l. omega (arith, c .if1 .taken, l), (omega (arith, c .before .before .before .extend .ensures .0, c .before .before .before .before .before .before .before .before .before .before .before .pre .0), (c .before .before .before .before .before .before .before .before .before .before .before .pre .1 .1 .1 .0, omega arith)))), piece-pending passwordAt (c .before .before .before .before .before .before .before .before .before .before .before .args .line .now) (c .before .before .before .before .before .before .before .before .before .before .before .args .n) (c .before .before .before .before .before .before .before .before .before .before .before .args .piece .now) (c .before .before .before .before .before .before .find .ensures .0) (c .before .before .before .extend .ensures .1) (stageIn (c .before .before .before .before .before .before .before .before .before .before .before .args .stage .fresh) (c .before .before .before .before .before .before .before .before .before .before .before .args .stage .rows) (c .before .before .before .before .before .before .before .before .before .before .before .args .table .now)) (c .before .before .before .before .before .before .before .before .before .before .before .args .out .now) (c .before .before .before .before .before .before .before .before .before .before .before .args .at) (c .if1 .taken))
+returns c =
+    let pre = c .before .before .before .before .before .before .before .before .before .before .before .pre in
+    let args = c .before .before .before .before .before .before .before .before .before .before .before .args in
+    let find = c .before .before .before .before .before .before .find in
+    let extend = c .before .before .before .extend in
+    ((find .ensures .1, (λ l. omega (arith, c .if1 .taken, l), (omega (arith, extend .ensures .0, pre .0), (pre .1 .1 .1 .0, omega arith)))), piece-pending passwordAt (args .line .now) (args .n) (args .piece .now) (find .ensures .0) (extend .ensures .1) (stageIn (args .stage .fresh) (args .stage .rows) (args .table .now)) (args .out .now) (args .at) (c .if1 .taken))
 
 serve-pending-requires : tie.Need-serve-pending-requires
 serve-pending-requires c κs = search needs
@@ -43,7 +48,13 @@ same-length-4 : tie.Need-same-length-4
 same-length-4 c = search needs
 
 returns-2 : tie.Need-returns-2
-returns-2 c = ((omega (arith, c .before .before .before .before .before .before .before .before .before .before .before .before .before .before .find .ensures .1, c .before .before .before .before .before .before .before .before .if1 .left), (λ l. omega arith, (omega arith, c .before .before .before .before .serve-pending .ensures .0))), piece-line passwordAt (c .before .before .before .before .before .before .before .before .before .before .before .before .before .before .before .before .before .before .before .args .line .now) (c .before .before .before .before .before .before .before .before .before .before .before .before .before .before .before .before .before .before .before .args .n) (c .before .before .before .before .before .before .before .before .before .before .before .before .before .before .before .before .before .before .before .args .piece .now) (c .before .before .before .before .before .before .before .before .before .before .before .before .before .before .find .ensures .0) (c .before .before .before .before .before .before .before .before .before .before .before .extend .ensures .1) (omega (arith, c .before .before .before .before .before .before .before .before .before .before .before .before .before .before .find .ensures .1, c .before .before .before .before .before .before .before .before .if1 .left)) (c .before .before .before .before .serve-pending .ensures .1))
+returns-2 c =
+    let args = c .before .before .before .before .before .before .before .before .before .before .before .before .before .before .before .before .before .before .before .args in
+    let find = c .before .before .before .before .before .before .before .before .before .before .before .before .before .before .find in
+    let extend = c .before .before .before .before .before .before .before .before .before .before .before .extend in
+    let if1 = c .before .before .before .before .before .before .before .before .if1 in
+    let serve-pending = c .before .before .before .before .serve-pending in
+    ((omega (arith, find .ensures .1, if1 .left), (λ l. omega arith, (omega arith, serve-pending .ensures .0))), piece-line passwordAt (args .line .now) (args .n) (args .piece .now) (find .ensures .0) (extend .ensures .1) (omega (arith, find .ensures .1, if1 .left)) (serve-pending .ensures .1))
 
 pub feed-spec : {M : Type 1} → statement M
 feed-spec =

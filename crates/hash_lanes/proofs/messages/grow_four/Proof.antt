@@ -28,7 +28,14 @@ same-length : tie.Need-same-length
 same-length c = search needs
 
 returns : tie.Need-returns
-returns c = grew-four (c .before .before .before .before .before .before .before .before .before .before .before .before .before .before .before .before .before .args .w .now) (c .before .before .before .before .before .before .before .before .before .before .before .before .before .before .before .before .before .args .l) (c .before .before .before .before .before .before .before .before .before .before .before .before .before .before .before .before .before .args .j) (c .before .before .before .before .before .before .before .before .before .before .before .before .before .before .before .before .before .pre .1 .1 .0) (c .before .before .before .before .before .before .before .before .before .before .before .before .before .before .before .before .before .pre .1 .0) (c .before .before .before .before .before .before .before .before .before .before .before .before .before .before .before .before .before .pre .1 .1 .1) (c .before .before .before .before .before .before .before .before .before .before .before .before .before .before .grow .kept .0) (c .before .before .before .before .before .before .before .before .before .before .grow2 .kept .0) (c .before .before .before .before .before .before .grow3 .kept .0) (c .before .before .before .before .before .before .before .before .before .before .before .before .before .before .grow .ensures) (c .before .before .before .before .before .before .before .before .before .before .grow2 .ensures) (c .before .before .before .before .before .before .grow3 .ensures) (c .before .before .grow4 .ensures)
+returns c =
+    let args = c .before .before .before .before .before .before .before .before .before .before .before .before .before .before .before .before .before .args in
+    let pre = c .before .before .before .before .before .before .before .before .before .before .before .before .before .before .before .before .before .pre in
+    let grow = c .before .before .before .before .before .before .before .before .before .before .before .before .before .before .grow in
+    let grow2 = c .before .before .before .before .before .before .before .before .before .before .grow2 in
+    let grow3 = c .before .before .before .before .before .before .grow3 in
+    let grow4 = c .before .before .grow4 in
+    grew-four (args .w .now) (args .l) (args .j) (pre .1 .1 .0) (pre .1 .0) (pre .1 .1 .1) (grow .kept .0) (grow2 .kept .0) (grow3 .kept .0) (grow .ensures) (grow2 .ensures) (grow3 .ensures) (grow4 .ensures)
 
 pub grow-four-spec : {M : Type 1} → statement M
 grow-four-spec =

@@ -41,7 +41,10 @@ loop-less : tie.Need-loop-less Inv-loop μ-loop
 loop-less c = search needs
 
 loop-again : tie.Need-loop-again Inv-loop μ-loop
-loop-again c = (omega arith, (rw length-set (c .before .before .loop .inv .1 .0), laid-more _ _ _ _ _ (c .before .before .before .before .before .pre .0) (c .before .loop-test .taken) (c .before .before .loop .inv .1 .0) (c .before .before .loop .inv .1 .1) (c .word-at .ensures) refl))
+loop-again c =
+    let pre = c .before .before .before .before .before .pre in
+    let loop = c .before .before .loop in
+    (omega arith, (rw length-set (loop .inv .1 .0), laid-more _ _ _ _ _ (pre .0) (c .before .loop-test .taken) (loop .inv .1 .0) (loop .inv .1 .1) (c .word-at .ensures) refl))
 
 same-length : tie.Need-same-length Inv-loop μ-loop
 same-length c = c .before .loop .inv .1 .0 ∙ sym (c .before .before .before .before .pre .1 .0)

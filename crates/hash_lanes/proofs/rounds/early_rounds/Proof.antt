@@ -27,7 +27,10 @@ loop-less : tie.Need-loop-less Inv-loop μ-loop
 loop-less c = search needs
 
 loop-again : tie.Need-loop-again Inv-loop μ-loop
-loop-again c = (omega arith, (omega arith, (c .before .before .before .before .early-lanes .kept .0 ∙ c .before .before .before .before .before .before .before .before .loop .inv .1 .1 .0, (c .before .before .before .before .early-lanes .kept .1 .0 ∙ c .before .before .before .before .before .before .before .before .loop .inv .1 .1 .1 .0, all-more _ _ (c .before .before .before .before .before .before .before .before .loop .i) _ _ _ _ _ _ (sym (zero-add (c .before .before .before .before .before .before .before .before .loop .i))) (c .before .before .before .before .before .before .before .before .loop .inv .1 .1 .1 .1) (c .before .before .before .before .early-lanes .ensures)))))
+loop-again c =
+    let loop = c .before .before .before .before .before .before .before .before .loop in
+    let early-lanes = c .before .before .before .before .early-lanes in
+    (omega arith, (omega arith, (early-lanes .kept .0 ∙ loop .inv .1 .1 .0, (early-lanes .kept .1 .0 ∙ loop .inv .1 .1 .1 .0, all-more _ _ (loop .i) _ _ _ _ _ _ (sym (zero-add (loop .i))) (loop .inv .1 .1 .1 .1) (early-lanes .ensures)))))
 
 same-length : tie.Need-same-length Inv-loop μ-loop
 same-length c = c .before .loop .inv .1 .1 .0 ∙ sym (c .before .before .before .before .before .pre .0)

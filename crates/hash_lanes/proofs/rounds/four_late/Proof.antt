@@ -15,28 +15,48 @@ value-at-requires : tie.Need-value-at-requires
 value-at-requires c κs = search needs
 
 late-round-requires : tie.Need-late-round-requires
-late-round-requires c κs = (omega (arith, c .before .before .before .before .before .before .before .before .before .before .pre .0, c .before .before .before .before .before .before .before .before .before .before .pre .1 .0), (omega (arith, c .before .before .before .before .before .before .before .before .before .before .pre .0, c .before .before .before .before .before .before .before .before .before .before .pre .1 .0), (c .before .before .before .before .before .before .before .before .before .before .pre .1 .1 .0, (c .before .before .before .before .before .grow-four .kept .0 ∙ c .before .before .before .before .before .before .before .before .before .before .pre .1 .1 .1 .1 .0, c .before .before .before .before .before .before .before .before .before .before .pre .1 .1 .1 .1 .1))))
+late-round-requires c κs =
+    let pre = c .before .before .before .before .before .before .before .before .before .before .pre in
+    let grow-four = c .before .before .before .before .before .grow-four in
+    (omega (arith, pre .0, pre .1 .0), (omega (arith, pre .0, pre .1 .0), (pre .1 .1 .0, (grow-four .kept .0 ∙ pre .1 .1 .1 .1 .0, pre .1 .1 .1 .1 .1))))
 
 add-late-round : tie.Need-add-late-round
-add-late-round c = omega (arith, c .before .before .before .before .before .before .before .before .before .before .before .pre .0, c .before .before .before .before .before .before .before .before .before .before .before .pre .1 .0)
+add-late-round c =
+    let pre = c .before .before .before .before .before .before .before .before .before .before .before .pre in
+    omega (arith, pre .0, pre .1 .0)
 
 late-round-requires-2 : tie.Need-late-round-requires-2
-late-round-requires-2 c κs = (omega (arith, c .before .before .before .before .before .before .before .before .before .before .before .before .pre .0, c .before .before .before .before .before .before .before .before .before .before .before .before .pre .1 .0), (omega (arith, c .before .before .before .before .before .before .before .before .before .before .before .before .pre .0, c .before .before .before .before .before .before .before .before .before .before .before .before .pre .1 .0), (c .before .before .before .before .before .before .before .before .before .before .before .before .pre .1 .1 .0, (c .before .before .before .before .before .before .before .grow-four .kept .0 ∙ c .before .before .before .before .before .before .before .before .before .before .before .before .pre .1 .1 .1 .1 .0, c .before .before .before .before .before .before .before .before .before .before .before .before .pre .1 .1 .1 .1 .1))))
+late-round-requires-2 c κs =
+    let pre = c .before .before .before .before .before .before .before .before .before .before .before .before .pre in
+    let grow-four = c .before .before .before .before .before .before .before .grow-four in
+    (omega (arith, pre .0, pre .1 .0), (omega (arith, pre .0, pre .1 .0), (pre .1 .1 .0, (grow-four .kept .0 ∙ pre .1 .1 .1 .1 .0, pre .1 .1 .1 .1 .1))))
 
 add-late-round-2 : tie.Need-add-late-round-2
-add-late-round-2 c = omega (arith, c .before .before .before .before .before .before .before .before .before .before .before .before .before .pre .0, c .before .before .before .before .before .before .before .before .before .before .before .before .before .pre .1 .0)
+add-late-round-2 c =
+    let pre = c .before .before .before .before .before .before .before .before .before .before .before .before .before .pre in
+    omega (arith, pre .0, pre .1 .0)
 
 late-round-requires-3 : tie.Need-late-round-requires-3
-late-round-requires-3 c κs = (omega (arith, c .before .before .before .before .before .before .before .before .before .before .before .before .before .before .pre .0, c .before .before .before .before .before .before .before .before .before .before .before .before .before .before .pre .1 .0), (omega (arith, c .before .before .before .before .before .before .before .before .before .before .before .before .before .before .pre .0, c .before .before .before .before .before .before .before .before .before .before .before .before .before .before .pre .1 .0), (c .before .before .before .before .before .before .before .before .before .before .before .before .before .before .pre .1 .1 .0, (c .before .before .before .before .before .before .before .before .before .grow-four .kept .0 ∙ c .before .before .before .before .before .before .before .before .before .before .before .before .before .before .pre .1 .1 .1 .1 .0, c .before .before .before .before .before .before .before .before .before .before .before .before .before .before .pre .1 .1 .1 .1 .1))))
+late-round-requires-3 c κs =
+    let pre = c .before .before .before .before .before .before .before .before .before .before .before .before .before .before .pre in
+    let grow-four = c .before .before .before .before .before .before .before .before .before .grow-four in
+    (omega (arith, pre .0, pre .1 .0), (omega (arith, pre .0, pre .1 .0), (pre .1 .1 .0, (grow-four .kept .0 ∙ pre .1 .1 .1 .1 .0, pre .1 .1 .1 .1 .1))))
 
 add-late-round-3 : tie.Need-add-late-round-3
-add-late-round-3 c = omega (arith, c .before .before .before .before .before .before .before .before .before .before .before .before .before .before .before .pre .0, c .before .before .before .before .before .before .before .before .before .before .before .before .before .before .before .pre .1 .0)
+add-late-round-3 c =
+    let pre = c .before .before .before .before .before .before .before .before .before .before .before .before .before .before .before .pre in
+    omega (arith, pre .0, pre .1 .0)
 
 late-round-requires-4 : tie.Need-late-round-requires-4
-late-round-requires-4 c κs = (omega (arith, c .before .before .before .before .before .before .before .before .before .before .before .before .before .before .before .before .pre .0, c .before .before .before .before .before .before .before .before .before .before .before .before .before .before .before .before .pre .1 .0), (omega (arith, c .before .before .before .before .before .before .before .before .before .before .before .before .before .before .before .before .pre .0, c .before .before .before .before .before .before .before .before .before .before .before .before .before .before .before .before .pre .1 .0), (c .before .before .before .before .before .before .before .before .before .before .before .before .before .before .before .before .pre .1 .1 .0, (c .before .before .before .before .before .before .before .before .before .before .before .grow-four .kept .0 ∙ c .before .before .before .before .before .before .before .before .before .before .before .before .before .before .before .before .pre .1 .1 .1 .1 .0, c .before .before .before .before .before .before .before .before .before .before .before .before .before .before .before .before .pre .1 .1 .1 .1 .1))))
+late-round-requires-4 c κs =
+    let pre = c .before .before .before .before .before .before .before .before .before .before .before .before .before .before .before .before .pre in
+    let grow-four = c .before .before .before .before .before .before .before .before .before .before .before .grow-four in
+    (omega (arith, pre .0, pre .1 .0), (omega (arith, pre .0, pre .1 .0), (pre .1 .1 .0, (grow-four .kept .0 ∙ pre .1 .1 .1 .1 .0, pre .1 .1 .1 .1 .1))))
 
 put-value-requires : tie.Need-put-value-requires
-put-value-requires c κs = (c .before .before .before .before .before .before .before .before .before .before .before .before .before .before .before .before .before .before .pre .1 .1 .0, c .before .before .before .before .before .before .before .before .before .before .before .before .before .before .before .before .before .before .pre .1 .1 .1 .0)
+put-value-requires c κs =
+    let pre = c .before .before .before .before .before .before .before .before .before .before .before .before .before .before .before .before .before .before .pre in
+    (pre .1 .1 .0, pre .1 .1 .1 .0)
 
 same-length : tie.Need-same-length
 same-length c = search needs
@@ -45,7 +65,16 @@ same-length-2 : tie.Need-same-length-2
 same-length-2 c = c .before .before .before .before .before .before .before .before .before .before .before .before .before .before .before .before .grow-four .kept .0
 
 returns : tie.Need-returns
-returns c = stepped-of (c .before .before .before .before .before .before .before .before .before .before .before .before .before .before .before .before .before .before .before .before .before .args .l) (c .before .before .before .before .before .before .before .before .before .before .before .before .before .before .before .before .before .before .before .before .before .args .j) (c .before .before .before .before .before .before .before .before .before .before .before .before .before .before .before .before .before .before .before .before .before .args .s .now) (c .before .before .before .before .before .before .before .before .before .before .before .before .before .before .before .before .before .before .before .before .before .args .w .now) (c .before .before .before .before .before .before .before .before .before .before .before .before .before .before .before .before .grow-four .ensures) (c .before .before .before .before .before .before .before .before .before .before .before .before .value-at .ensures) (c .before .before .before .before .before .before .before .before .before .before .late-round .ensures) (c .before .before .before .before .before .before .before .before .late-round2 .ensures) (c .before .before .before .before .before .before .late-round3 .ensures) (c .before .before .before .before .late-round4 .ensures) (c .before .before .put-value .ensures)
+returns c =
+    let args = c .before .before .before .before .before .before .before .before .before .before .before .before .before .before .before .before .before .before .before .before .before .args in
+    let grow-four = c .before .before .before .before .before .before .before .before .before .before .before .before .before .before .before .before .grow-four in
+    let value-at = c .before .before .before .before .before .before .before .before .before .before .before .before .value-at in
+    let late-round = c .before .before .before .before .before .before .before .before .before .before .late-round in
+    let late-round2 = c .before .before .before .before .before .before .before .before .late-round2 in
+    let late-round3 = c .before .before .before .before .before .before .late-round3 in
+    let late-round4 = c .before .before .before .before .late-round4 in
+    let put-value = c .before .before .put-value in
+    stepped-of (args .l) (args .j) (args .s .now) (args .w .now) (grow-four .ensures) (value-at .ensures) (late-round .ensures) (late-round2 .ensures) (late-round3 .ensures) (late-round4 .ensures) (put-value .ensures)
 
 pub four-late-spec : {M : Type 1} → statement M
 four-late-spec =

@@ -14,10 +14,16 @@ abbrev μ-loop : tie.MeasureT-loop
 μ-loop s₀ w₀ j t l₀ s w l = 4 - l
 
 loop-holds : tie.Need-loop-holds Inv-loop μ-loop
-loop-holds c = (search needs, (c .before .before .before .pre .1 .1 .0, (c .before .before .before .pre .1 .1 .1 .0, part-none (c .before .before .before .args .j) (c .before .before .before .args .s .now) (c .before .before .before .args .w .now))))
+loop-holds c =
+    let pre = c .before .before .before .pre in
+    let args = c .before .before .before .args in
+    (search needs, (pre .1 .1 .0, (pre .1 .1 .1 .0, part-none (args .j) (args .s .now) (args .w .now))))
 
 four-late-requires : tie.Need-four-late-requires Inv-loop μ-loop
-four-late-requires c κs = (c .before .before .before .before .before .before .before .pre .0, (c .before .before .before .before .before .before .before .pre .1 .0, (omega arith, (c .before .before .before .loop .inv .1 .0, (c .before .before .before .loop .inv .1 .1 .0, c .before .before .before .before .before .before .before .pre .1 .1 .1 .1)))))
+four-late-requires c κs =
+    let pre = c .before .before .before .before .before .before .before .pre in
+    let loop = c .before .before .before .loop in
+    (pre .0, (pre .1 .0, (omega arith, (loop .inv .1 .0, (loop .inv .1 .1 .0, pre .1 .1 .1 .1)))))
 
 add-l : tie.Need-add-l Inv-loop μ-loop
 add-l c = search needs
@@ -26,7 +32,11 @@ loop-less : tie.Need-loop-less Inv-loop μ-loop
 loop-less c = search needs
 
 loop-again : tie.Need-loop-again Inv-loop μ-loop
-loop-again c = (omega arith, (c .before .before .before .before .four-late .kept .0 ∙ c .before .before .before .before .before .before .before .before .loop .inv .1 .0, (c .before .before .before .before .four-late .kept .1 .0 ∙ c .before .before .before .before .before .before .before .before .loop .inv .1 .1 .0, part-more _ _ _ _ _ _ _ _ (c .before .before .before .before .before .before .before .loop-test .taken) (c .before .before .before .before .before .before .before .before .loop .inv .1 .1 .1) (c .before .before .before .before .four-late .ensures))))
+loop-again c =
+    let loop = c .before .before .before .before .before .before .before .before .loop in
+    let loop-test = c .before .before .before .before .before .before .before .loop-test in
+    let four-late = c .before .before .before .before .four-late in
+    (omega arith, (four-late .kept .0 ∙ loop .inv .1 .0, (four-late .kept .1 .0 ∙ loop .inv .1 .1 .0, part-more _ _ _ _ _ _ _ _ (loop-test .taken) (loop .inv .1 .1 .1) (four-late .ensures))))
 
 same-length : tie.Need-same-length Inv-loop μ-loop
 same-length c = c .before .loop .inv .1 .0 ∙ sym (c .before .before .before .before .before .pre .1 .1 .0)

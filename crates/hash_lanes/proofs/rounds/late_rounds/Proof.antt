@@ -20,7 +20,10 @@ add-late-lanes : tie.Need-add-late-lanes Inv-loop μ-loop
 add-late-lanes c = search needs
 
 late-lanes-requires : tie.Need-late-lanes-requires Inv-loop μ-loop
-late-lanes-requires c κs = (omega arith, (omega arith, (c .before .before .before .loop .inv .1 .1 .0, (c .before .before .before .loop .inv .1 .1 .1 .0, c .before .before .before .before .before .before .before .pre .1 .1))))
+late-lanes-requires c κs =
+    let pre = c .before .before .before .before .before .before .before .pre in
+    let loop = c .before .before .before .loop in
+    (omega arith, (omega arith, (loop .inv .1 .1 .0, (loop .inv .1 .1 .1 .0, pre .1 .1))))
 
 add-i : tie.Need-add-i Inv-loop μ-loop
 add-i c = search needs
@@ -29,7 +32,10 @@ loop-less : tie.Need-loop-less Inv-loop μ-loop
 loop-less c = search needs
 
 loop-again : tie.Need-loop-again Inv-loop μ-loop
-loop-again c = (omega arith, (omega arith, (c .before .before .before .before .late-lanes .kept .0 ∙ c .before .before .before .before .before .before .before .before .loop .inv .1 .1 .0, (c .before .before .before .before .late-lanes .kept .1 .0 ∙ c .before .before .before .before .before .before .before .before .loop .inv .1 .1 .1 .0, all-more _ _ (16 + c .before .before .before .before .before .before .before .before .loop .i) _ _ _ _ _ _ refl (c .before .before .before .before .before .before .before .before .loop .inv .1 .1 .1 .1) (c .before .before .before .before .late-lanes .ensures)))))
+loop-again c =
+    let loop = c .before .before .before .before .before .before .before .before .loop in
+    let late-lanes = c .before .before .before .before .late-lanes in
+    (omega arith, (omega arith, (late-lanes .kept .0 ∙ loop .inv .1 .1 .0, (late-lanes .kept .1 .0 ∙ loop .inv .1 .1 .1 .0, all-more _ _ (16 + loop .i) _ _ _ _ _ _ refl (loop .inv .1 .1 .1 .1) (late-lanes .ensures)))))
 
 same-length : tie.Need-same-length Inv-loop μ-loop
 same-length c = c .before .loop .inv .1 .1 .0 ∙ sym (c .before .before .before .before .before .pre .0)

@@ -78,25 +78,39 @@ round-requires-13 : tie.Need-round-requires-13
 round-requires-13 c κs = c .before .before .before .before .before .before .before .before .before .before .before .before .before .before .before .before .before .before .before .before .before .before .before .pre .0
 
 round-requires-14 : tie.Need-round-requires-14
-round-requires-14 c κs = c .before .before .before .before .before .before .before .before .before .before .before .before .before .before .before .before .before .before .before .before .before .before .before .before .pre .0
+round-requires-14 c κs =
+    let pre = c .before .before .before .before .before .before .before .before .before .before .before .before .before .before .before .before .before .before .before .before .before .before .before .before .pre in
+    pre .0
 
 round-requires-15 : tie.Need-round-requires-15
-round-requires-15 c κs = c .before .before .before .before .before .before .before .before .before .before .before .before .before .before .before .before .before .before .before .before .before .before .before .before .before .pre .0
+round-requires-15 c κs =
+    let pre = c .before .before .before .before .before .before .before .before .before .before .before .before .before .before .before .before .before .before .before .before .before .before .before .before .before .pre in
+    pre .0
 
 round-requires-16 : tie.Need-round-requires-16
-round-requires-16 c κs = c .before .before .before .before .before .before .before .before .before .before .before .before .before .before .before .before .before .before .before .before .before .before .before .before .before .before .pre .0
+round-requires-16 c κs =
+    let pre = c .before .before .before .before .before .before .before .before .before .before .before .before .before .before .before .before .before .before .before .before .before .before .before .before .before .before .pre in
+    pre .0
 
 round-requires-17 : tie.Need-round-requires-17
-round-requires-17 c κs = c .before .before .before .before .before .before .before .before .before .before .before .before .before .before .before .before .before .before .before .before .before .before .before .before .before .before .before .pre .0
+round-requires-17 c κs =
+    let pre = c .before .before .before .before .before .before .before .before .before .before .before .before .before .before .before .before .before .before .before .before .before .before .before .before .before .before .before .pre in
+    pre .0
 
 round-requires-18 : tie.Need-round-requires-18
-round-requires-18 c κs = c .before .before .before .before .before .before .before .before .before .before .before .before .before .before .before .before .before .before .before .before .before .before .before .before .before .before .before .before .pre .0
+round-requires-18 c κs =
+    let pre = c .before .before .before .before .before .before .before .before .before .before .before .before .before .before .before .before .before .before .before .before .before .before .before .before .before .before .before .before .pre in
+    pre .0
 
 round-requires-19 : tie.Need-round-requires-19
-round-requires-19 c κs = c .before .before .before .before .before .before .before .before .before .before .before .before .before .before .before .before .before .before .before .before .before .before .before .before .before .before .before .before .before .pre .0
+round-requires-19 c κs =
+    let pre = c .before .before .before .before .before .before .before .before .before .before .before .before .before .before .before .before .before .before .before .before .before .before .before .before .before .before .before .before .before .pre in
+    pre .0
 
 round-requires-20 : tie.Need-round-requires-20
-round-requires-20 c κs = c .before .before .before .before .before .before .before .before .before .before .before .before .before .before .before .before .before .before .before .before .before .before .before .before .before .before .before .before .before .before .pre .0
+round-requires-20 c κs =
+    let pre = c .before .before .before .before .before .before .before .before .before .before .before .before .before .before .before .before .before .before .before .before .before .before .before .before .before .before .before .before .before .before .pre in
+    pre .0
 
 quad-requires : tie.Need-quad-requires
 quad-requires c κs = search needs
@@ -114,7 +128,32 @@ quad-requires-5 : tie.Need-quad-requires-5
 quad-requires-5 c κs = search needs
 
 returns : tie.Need-returns
-returns c = (c .before .before .before .before .quad .ensures ∙ four-steps linear (c .before .before .before .before .before .before .before .before .before .before .before .before .before .before .before .before .before .before .before .before .before .before .before .before .before .before .before .before .before .before .before .before .before .before .before .before .args .keys .now) (c .before .before .before .before .before .before .before .before .before .before .before .before .before .before .before .before .before .before .before .before .before .before .before .before .before .before .before .before .before .before .before .before .before .before .before .before .args .i) (c .before .before .before .before .before .before .before .before .before .before .before .before .before .before .before .before .before .before .before .before .before .before .before .before .before .before .before .before .before .before .before .before .before .before .before .before .args .s .first) (c .before .before .before .before .before .before .before .before .before .before .before .before .before .before .before .before .before .before .before .before .before .before .before .before .round .ensures) (c .before .before .before .before .before .before .before .before .before .before .before .before .before .before .before .before .before .before .before .round6 .ensures) (c .before .before .before .before .before .before .before .before .before .before .before .before .before .before .round11 .ensures) (c .before .before .before .before .before .before .before .before .before .round16 .ensures), (c .before .before .before .quad2 .ensures ∙ four-steps linear (c .before .before .before .before .before .before .before .before .before .before .before .before .before .before .before .before .before .before .before .before .before .before .before .before .before .before .before .before .before .before .before .before .before .before .before .before .args .keys .now) (c .before .before .before .before .before .before .before .before .before .before .before .before .before .before .before .before .before .before .before .before .before .before .before .before .before .before .before .before .before .before .before .before .before .before .before .before .args .i) (c .before .before .before .before .before .before .before .before .before .before .before .before .before .before .before .before .before .before .before .before .before .before .before .before .before .before .before .before .before .before .before .before .before .before .before .before .args .s .second) (c .before .before .before .before .before .before .before .before .before .before .before .before .before .before .before .before .before .before .before .before .before .before .before .round2 .ensures) (c .before .before .before .before .before .before .before .before .before .before .before .before .before .before .before .before .before .before .round7 .ensures) (c .before .before .before .before .before .before .before .before .before .before .before .before .before .round12 .ensures) (c .before .before .before .before .before .before .before .before .round17 .ensures), (c .before .before .quad3 .ensures ∙ four-steps linear (c .before .before .before .before .before .before .before .before .before .before .before .before .before .before .before .before .before .before .before .before .before .before .before .before .before .before .before .before .before .before .before .before .before .before .before .before .args .keys .now) (c .before .before .before .before .before .before .before .before .before .before .before .before .before .before .before .before .before .before .before .before .before .before .before .before .before .before .before .before .before .before .before .before .before .before .before .before .args .i) (c .before .before .before .before .before .before .before .before .before .before .before .before .before .before .before .before .before .before .before .before .before .before .before .before .before .before .before .before .before .before .before .before .before .before .before .before .args .s .third) (c .before .before .before .before .before .before .before .before .before .before .before .before .before .before .before .before .before .before .before .before .before .before .round3 .ensures) (c .before .before .before .before .before .before .before .before .before .before .before .before .before .before .before .before .before .round8 .ensures) (c .before .before .before .before .before .before .before .before .before .before .before .before .round13 .ensures) (c .before .before .before .before .before .before .before .round18 .ensures), (c .before .quad4 .ensures ∙ four-steps linear (c .before .before .before .before .before .before .before .before .before .before .before .before .before .before .before .before .before .before .before .before .before .before .before .before .before .before .before .before .before .before .before .before .before .before .before .before .args .keys .now) (c .before .before .before .before .before .before .before .before .before .before .before .before .before .before .before .before .before .before .before .before .before .before .before .before .before .before .before .before .before .before .before .before .before .before .before .before .args .i) (c .before .before .before .before .before .before .before .before .before .before .before .before .before .before .before .before .before .before .before .before .before .before .before .before .before .before .before .before .before .before .before .before .before .before .before .before .args .s .fourth) (c .before .before .before .before .before .before .before .before .before .before .before .before .before .before .before .before .before .before .before .before .before .round4 .ensures) (c .before .before .before .before .before .before .before .before .before .before .before .before .before .before .before .before .round9 .ensures) (c .before .before .before .before .before .before .before .before .before .before .before .round14 .ensures) (c .before .before .before .before .before .before .round19 .ensures), c .quad5 .ensures ∙ four-steps linear (c .before .before .before .before .before .before .before .before .before .before .before .before .before .before .before .before .before .before .before .before .before .before .before .before .before .before .before .before .before .before .before .before .before .before .before .before .args .keys .now) (c .before .before .before .before .before .before .before .before .before .before .before .before .before .before .before .before .before .before .before .before .before .before .before .before .before .before .before .before .before .before .before .before .before .before .before .before .args .i) (c .before .before .before .before .before .before .before .before .before .before .before .before .before .before .before .before .before .before .before .before .before .before .before .before .before .before .before .before .before .before .before .before .before .before .before .before .args .s .fifth) (c .before .before .before .before .before .before .before .before .before .before .before .before .before .before .before .before .before .before .before .before .round5 .ensures) (c .before .before .before .before .before .before .before .before .before .before .before .before .before .before .before .round10 .ensures) (c .before .before .before .before .before .before .before .before .before .before .round15 .ensures) (c .before .before .before .before .before .round20 .ensures)))))
+returns c =
+    let args = c .before .before .before .before .before .before .before .before .before .before .before .before .before .before .before .before .before .before .before .before .before .before .before .before .before .before .before .before .before .before .before .before .before .before .before .before .args in
+    let round = c .before .before .before .before .before .before .before .before .before .before .before .before .before .before .before .before .before .before .before .before .before .before .before .before .round in
+    let round2 = c .before .before .before .before .before .before .before .before .before .before .before .before .before .before .before .before .before .before .before .before .before .before .before .round2 in
+    let round3 = c .before .before .before .before .before .before .before .before .before .before .before .before .before .before .before .before .before .before .before .before .before .before .round3 in
+    let round4 = c .before .before .before .before .before .before .before .before .before .before .before .before .before .before .before .before .before .before .before .before .before .round4 in
+    let round5 = c .before .before .before .before .before .before .before .before .before .before .before .before .before .before .before .before .before .before .before .before .round5 in
+    let round6 = c .before .before .before .before .before .before .before .before .before .before .before .before .before .before .before .before .before .before .before .round6 in
+    let round7 = c .before .before .before .before .before .before .before .before .before .before .before .before .before .before .before .before .before .before .round7 in
+    let round8 = c .before .before .before .before .before .before .before .before .before .before .before .before .before .before .before .before .before .round8 in
+    let round9 = c .before .before .before .before .before .before .before .before .before .before .before .before .before .before .before .before .round9 in
+    let round10 = c .before .before .before .before .before .before .before .before .before .before .before .before .before .before .before .round10 in
+    let round11 = c .before .before .before .before .before .before .before .before .before .before .before .before .before .before .round11 in
+    let round12 = c .before .before .before .before .before .before .before .before .before .before .before .before .before .round12 in
+    let round13 = c .before .before .before .before .before .before .before .before .before .before .before .before .round13 in
+    let round14 = c .before .before .before .before .before .before .before .before .before .before .before .round14 in
+    let round15 = c .before .before .before .before .before .before .before .before .before .before .round15 in
+    let round16 = c .before .before .before .before .before .before .before .before .before .round16 in
+    let round17 = c .before .before .before .before .before .before .before .before .round17 in
+    let round18 = c .before .before .before .before .before .before .before .round18 in
+    let round19 = c .before .before .before .before .before .before .round19 in
+    let round20 = c .before .before .before .before .before .round20 in
+    let quad = c .before .before .before .before .quad in
+    let quad2 = c .before .before .before .quad2 in
+    let quad3 = c .before .before .quad3 in
+    (quad .ensures ∙ four-steps linear (args .keys .now) (args .i) (args .s .first) (round .ensures) (round6 .ensures) (round11 .ensures) (round16 .ensures), (quad2 .ensures ∙ four-steps linear (args .keys .now) (args .i) (args .s .second) (round2 .ensures) (round7 .ensures) (round12 .ensures) (round17 .ensures), (quad3 .ensures ∙ four-steps linear (args .keys .now) (args .i) (args .s .third) (round3 .ensures) (round8 .ensures) (round13 .ensures) (round18 .ensures), (c .before .quad4 .ensures ∙ four-steps linear (args .keys .now) (args .i) (args .s .fourth) (round4 .ensures) (round9 .ensures) (round14 .ensures) (round19 .ensures), c .quad5 .ensures ∙ four-steps linear (args .keys .now) (args .i) (args .s .fifth) (round5 .ensures) (round10 .ensures) (round15 .ensures) (round20 .ensures)))))
 
 pub four-rounds-spec : {M : Type 1} → statement M
 four-rounds-spec =

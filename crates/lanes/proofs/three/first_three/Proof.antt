@@ -29,7 +29,12 @@ same-length : tie.Need-same-length
 same-length c = search needs
 
 returns : tie.Need-returns
-returns c = (lane-state (c .before .before .before .before .before .before .before .before .before .before .before .before .before .before .before .before .before .before .args .key .now) (c .before .before .before .before .before .before .before .before .before .before .before .before .before .before .before .before .before .before .args .blocks .first) (c .before .before .before .before .before .before .before .before .before .before .words-of .ensures) (c .before .before .before .before .before .before .before .before .before .masked .ensures) (c .before .before .before .before .before .all-steps .ensures .0), (lane-state (c .before .before .before .before .before .before .before .before .before .before .before .before .before .before .before .before .before .before .args .key .now) (c .before .before .before .before .before .before .before .before .before .before .before .before .before .before .before .before .before .before .args .blocks .second) (c .before .before .before .before .before .before .before .before .before .before .words-of .ensures) (c .before .before .before .before .before .before .before .before .before .masked .ensures) (c .before .before .before .before .before .all-steps .ensures .1 .0), (lane-state (c .before .before .before .before .before .before .before .before .before .before .before .before .before .before .before .before .before .before .args .key .now) (c .before .before .before .before .before .before .before .before .before .before .before .before .before .before .before .before .before .before .args .blocks .third) (c .before .before .before .before .before .before .before .before .before .before .words-of .ensures) (c .before .before .before .before .before .before .before .before .before .masked .ensures) (c .before .before .before .before .before .all-steps .ensures .1 .1 .0), sides-keys (c .before .before .before .before .before .before .before .before .before .before .before .before .before .before .before .before .before .before .args .key .now) (c .before .before .before .before .before .before .before .before .before .before .words-of .ensures) (c .before .before .before .before .before .before .before .before .before .masked .ensures) (c .before .before .before .before .before .all-steps .ensures .1 .1 .1))))
+returns c =
+    let args = c .before .before .before .before .before .before .before .before .before .before .before .before .before .before .before .before .before .before .args in
+    let words-of = c .before .before .before .before .before .before .before .before .before .before .words-of in
+    let masked = c .before .before .before .before .before .before .before .before .before .masked in
+    let all-steps = c .before .before .before .before .before .all-steps in
+    (lane-state (args .key .now) (args .blocks .first) (words-of .ensures) (masked .ensures) (all-steps .ensures .0), (lane-state (args .key .now) (args .blocks .second) (words-of .ensures) (masked .ensures) (all-steps .ensures .1 .0), (lane-state (args .key .now) (args .blocks .third) (words-of .ensures) (masked .ensures) (all-steps .ensures .1 .1 .0), sides-keys (args .key .now) (words-of .ensures) (masked .ensures) (all-steps .ensures .1 .1 .1))))
 
 pub first-three-spec : {M : Type 1} → statement M
 first-three-spec =

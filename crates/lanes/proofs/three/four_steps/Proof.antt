@@ -81,10 +81,14 @@ round-requires-10 : tie.Need-round-requires-10
 round-requires-10 c κs = c .before .before .before .before .before .before .before .before .before .before .before .before .before .before .before .before .before .before .before .before .before .before .before .pre .0
 
 round-requires-11 : tie.Need-round-requires-11
-round-requires-11 c κs = c .before .before .before .before .before .before .before .before .before .before .before .before .before .before .before .before .before .before .before .before .before .before .before .before .pre .0
+round-requires-11 c κs =
+    let pre = c .before .before .before .before .before .before .before .before .before .before .before .before .before .before .before .before .before .before .before .before .before .before .before .before .pre in
+    pre .0
 
 round-requires-12 : tie.Need-round-requires-12
-round-requires-12 c κs = c .before .before .before .before .before .before .before .before .before .before .before .before .before .before .before .before .before .before .before .before .before .before .before .before .before .pre .0
+round-requires-12 c κs =
+    let pre = c .before .before .before .before .before .before .before .before .before .before .before .before .before .before .before .before .before .before .before .before .before .before .before .before .before .pre in
+    pre .0
 
 quad-requires : tie.Need-quad-requires
 quad-requires c κs = search needs
@@ -99,7 +103,27 @@ quad-requires-4 : tie.Need-quad-requires-4
 quad-requires-4 c κs = search needs
 
 returns : tie.Need-returns
-returns c = (ap₂ side (c .before .before .before .quad .ensures) (c .before .before .quad2 .ensures) ∙ four-sides (c .before .before .before .before .before .before .before .before .before .before .before .before .before .before .before .before .before .before .before .before .before .before .before .before .before .before .before .before .before .before .args .ck .now) (c .before .before .before .before .before .before .before .before .before .before .before .before .before .before .before .before .before .before .before .before .before .before .before .before .before .before .before .before .before .before .args .i) (side (c .before .before .before .before .before .before .before .before .before .before .before .before .before .before .before .before .before .before .before .before .before .before .before .before .before .before .before .before .before .before .args .s .key) (c .before .before .before .before .before .before .before .before .before .before .before .before .before .before .before .before .before .before .before .before .before .before .before .before .before .before .before .before .before .before .args .s .first)) (c .before .before .before .before .before .before .before .before .before .before .before .before .before .before .before .before .before .before .before .key-round .ensures) (c .before .before .before .before .before .before .before .before .before .before .before .before .before .before .before .before .before .before .round .ensures) (c .before .before .before .before .before .before .before .before .before .before .before .before .before .before .before .key-round2 .ensures) (c .before .before .before .before .before .before .before .before .before .before .before .before .before .before .round4 .ensures) (c .before .before .before .before .before .before .before .before .before .before .before .key-round3 .ensures) (c .before .before .before .before .before .before .before .before .before .before .round7 .ensures) (c .before .before .before .before .before .before .before .key-round4 .ensures) (c .before .before .before .before .before .before .round10 .ensures), (ap₂ side (c .before .before .before .quad .ensures) (c .before .quad3 .ensures) ∙ four-sides (c .before .before .before .before .before .before .before .before .before .before .before .before .before .before .before .before .before .before .before .before .before .before .before .before .before .before .before .before .before .before .args .ck .now) (c .before .before .before .before .before .before .before .before .before .before .before .before .before .before .before .before .before .before .before .before .before .before .before .before .before .before .before .before .before .before .args .i) (side (c .before .before .before .before .before .before .before .before .before .before .before .before .before .before .before .before .before .before .before .before .before .before .before .before .before .before .before .before .before .before .args .s .key) (c .before .before .before .before .before .before .before .before .before .before .before .before .before .before .before .before .before .before .before .before .before .before .before .before .before .before .before .before .before .before .args .s .second)) (c .before .before .before .before .before .before .before .before .before .before .before .before .before .before .before .before .before .before .before .key-round .ensures) (c .before .before .before .before .before .before .before .before .before .before .before .before .before .before .before .before .before .round2 .ensures) (c .before .before .before .before .before .before .before .before .before .before .before .before .before .before .before .key-round2 .ensures) (c .before .before .before .before .before .before .before .before .before .before .before .before .before .round5 .ensures) (c .before .before .before .before .before .before .before .before .before .before .before .key-round3 .ensures) (c .before .before .before .before .before .before .before .before .before .round8 .ensures) (c .before .before .before .before .before .before .before .key-round4 .ensures) (c .before .before .before .before .before .round11 .ensures), ap₂ side (c .before .before .before .quad .ensures) (c .quad4 .ensures) ∙ four-sides (c .before .before .before .before .before .before .before .before .before .before .before .before .before .before .before .before .before .before .before .before .before .before .before .before .before .before .before .before .before .before .args .ck .now) (c .before .before .before .before .before .before .before .before .before .before .before .before .before .before .before .before .before .before .before .before .before .before .before .before .before .before .before .before .before .before .args .i) (side (c .before .before .before .before .before .before .before .before .before .before .before .before .before .before .before .before .before .before .before .before .before .before .before .before .before .before .before .before .before .before .args .s .key) (c .before .before .before .before .before .before .before .before .before .before .before .before .before .before .before .before .before .before .before .before .before .before .before .before .before .before .before .before .before .before .args .s .third)) (c .before .before .before .before .before .before .before .before .before .before .before .before .before .before .before .before .before .before .before .key-round .ensures) (c .before .before .before .before .before .before .before .before .before .before .before .before .before .before .before .before .round3 .ensures) (c .before .before .before .before .before .before .before .before .before .before .before .before .before .before .before .key-round2 .ensures) (c .before .before .before .before .before .before .before .before .before .before .before .before .round6 .ensures) (c .before .before .before .before .before .before .before .before .before .before .before .key-round3 .ensures) (c .before .before .before .before .before .before .before .before .round9 .ensures) (c .before .before .before .before .before .before .before .key-round4 .ensures) (c .before .before .before .before .round12 .ensures)))
+returns c =
+    let args = c .before .before .before .before .before .before .before .before .before .before .before .before .before .before .before .before .before .before .before .before .before .before .before .before .before .before .before .before .before .before .args in
+    let key-round = c .before .before .before .before .before .before .before .before .before .before .before .before .before .before .before .before .before .before .before .key-round in
+    let round = c .before .before .before .before .before .before .before .before .before .before .before .before .before .before .before .before .before .before .round in
+    let round2 = c .before .before .before .before .before .before .before .before .before .before .before .before .before .before .before .before .before .round2 in
+    let round3 = c .before .before .before .before .before .before .before .before .before .before .before .before .before .before .before .before .round3 in
+    let key-round2 = c .before .before .before .before .before .before .before .before .before .before .before .before .before .before .before .key-round2 in
+    let round4 = c .before .before .before .before .before .before .before .before .before .before .before .before .before .before .round4 in
+    let round5 = c .before .before .before .before .before .before .before .before .before .before .before .before .before .round5 in
+    let round6 = c .before .before .before .before .before .before .before .before .before .before .before .before .round6 in
+    let key-round3 = c .before .before .before .before .before .before .before .before .before .before .before .key-round3 in
+    let round7 = c .before .before .before .before .before .before .before .before .before .before .round7 in
+    let round8 = c .before .before .before .before .before .before .before .before .before .round8 in
+    let round9 = c .before .before .before .before .before .before .before .before .round9 in
+    let key-round4 = c .before .before .before .before .before .before .before .key-round4 in
+    let round10 = c .before .before .before .before .before .before .round10 in
+    let round11 = c .before .before .before .before .before .round11 in
+    let round12 = c .before .before .before .before .round12 in
+    let quad = c .before .before .before .quad in
+    let quad2 = c .before .before .quad2 in
+    (ap₂ side (quad .ensures) (quad2 .ensures) ∙ four-sides (args .ck .now) (args .i) (side (args .s .key) (args .s .first)) (key-round .ensures) (round .ensures) (key-round2 .ensures) (round4 .ensures) (key-round3 .ensures) (round7 .ensures) (key-round4 .ensures) (round10 .ensures), (ap₂ side (quad .ensures) (c .before .quad3 .ensures) ∙ four-sides (args .ck .now) (args .i) (side (args .s .key) (args .s .second)) (key-round .ensures) (round2 .ensures) (key-round2 .ensures) (round5 .ensures) (key-round3 .ensures) (round8 .ensures) (key-round4 .ensures) (round11 .ensures), ap₂ side (quad .ensures) (c .quad4 .ensures) ∙ four-sides (args .ck .now) (args .i) (side (args .s .key) (args .s .third)) (key-round .ensures) (round3 .ensures) (key-round2 .ensures) (round6 .ensures) (key-round3 .ensures) (round9 .ensures) (key-round4 .ensures) (round12 .ensures)))
 
 pub four-steps-spec : {M : Type 1} → statement M
 four-steps-spec =

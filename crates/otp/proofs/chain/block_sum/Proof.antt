@@ -41,7 +41,15 @@ cast-t14 : tie.Need-cast-t14
 cast-t14 c = search needs
 
 returns : tie.Need-returns
-returns c = sum-of-halves (c .before .before .before .before .before .before .before .before .args .p) (c .before .before .before .before .before .before .before .before .args .q) (c .before .before .before .before .joined3 .ensures) (c .before .before .before .before .before .before .before .joined .ensures) (c .before .before .before .joined4 .ensures) (c .before .before .before .before .before .before .joined2 .ensures) (omega arith) (omega arith) (c .before .before .before .before .before .wrapping-add-u64 .ensures) (c .before .before .wrapping-add-u642 .ensures) (c .before .carry .ensures) (c .wrapping-add-u643 .ensures)
+returns c =
+    let args = c .before .before .before .before .before .before .before .before .args in
+    let joined = c .before .before .before .before .before .before .before .joined in
+    let joined2 = c .before .before .before .before .before .before .joined2 in
+    let wrapping-add-u64 = c .before .before .before .before .before .wrapping-add-u64 in
+    let joined3 = c .before .before .before .before .joined3 in
+    let joined4 = c .before .before .before .joined4 in
+    let wrapping-add-u642 = c .before .before .wrapping-add-u642 in
+    sum-of-halves (args .p) (args .q) (joined3 .ensures) (joined .ensures) (joined4 .ensures) (joined2 .ensures) (omega arith) (omega arith) (wrapping-add-u64 .ensures) (wrapping-add-u642 .ensures) (c .before .carry .ensures) (c .wrapping-add-u643 .ensures)
 
 pub block-sum-spec : {M : Type 1} → statement M
 block-sum-spec =

@@ -32,7 +32,10 @@ part-words-of-end : tie.Need-part-words-of-end Inv-loop μ-loop
 part-words-of-end c = search needs
 
 words-of-requires : tie.Need-words-of-requires Inv-loop μ-loop
-words-of-requires c κs = rw (block-part (c .before .before .before .before .before .args .s .now) (c .before .before .loop .i)) (block-length (c .before .before .before .before .before .args .s .now) (c .before .before .loop .i) (omega arith))
+words-of-requires c κs =
+    let args = c .before .before .before .before .before .args in
+    let loop = c .before .before .loop in
+    rw (block-part (args .s .now) (loop .i)) (block-length (args .s .now) (loop .i) (omega arith))
 
 block-sum-requires : tie.Need-block-sum-requires Inv-loop μ-loop
 block-sum-requires c κs = search needs

@@ -51,7 +51,18 @@ cut-words-requires-5 : tie.Need-cut-words-requires-5
 cut-words-requires-5 c κs = search needs
 
 returns : tie.Need-returns
-returns c = five-cuts (cutBy (c .before .before .before .before .before .before .before .before .before .before .before .before .before .before .before .before .before .args .keys .now) (c .before .before .before .before .before .before .before .before .before .before .before .before .before .before .before .before .before .args .timed)) (c .before .before .before .before .before .before .before .before .before .before .before .before .before .before .before .before .before .args .s) (lane-cut (c .before .before .before .before .before .before .before .before .before .before .before .before .before .before .before .before .before .args .keys .now) (c .before .before .before .before .before .before .before .before .before .before .before .before .before .before .before .before .before .args .timed) (c .before .before .before .before .before .before .before .before .before .before .before .before .before .before .before .before .before .args .s) (c .before .before .before .before .before .before .before .before .before .before .before .before .before .before .before .block-of .ensures) (c .before .before .before .before .before .before .before .before .before .before .five-blocks .ensures .0) (c .before .before .before .before .cut-words .ensures)) (lane-cut (c .before .before .before .before .before .before .before .before .before .before .before .before .before .before .before .before .before .args .keys .now) (c .before .before .before .before .before .before .before .before .before .before .before .before .before .before .before .before .before .args .timed) (c .before .before .before .before .before .before .before .before .before .before .before .before .before .before .before .before .before .args .s + 1) (c .before .before .before .before .before .before .before .before .before .before .before .before .before .before .block-of2 .ensures) (c .before .before .before .before .before .before .before .before .before .before .five-blocks .ensures .1 .0) (c .before .before .before .cut-words2 .ensures)) (lane-cut (c .before .before .before .before .before .before .before .before .before .before .before .before .before .before .before .before .before .args .keys .now) (c .before .before .before .before .before .before .before .before .before .before .before .before .before .before .before .before .before .args .timed) (c .before .before .before .before .before .before .before .before .before .before .before .before .before .before .before .before .before .args .s + 2) (c .before .before .before .before .before .before .before .before .before .before .before .before .before .block-of3 .ensures) (c .before .before .before .before .before .before .before .before .before .before .five-blocks .ensures .1 .1 .0) (c .before .before .cut-words3 .ensures)) (lane-cut (c .before .before .before .before .before .before .before .before .before .before .before .before .before .before .before .before .before .args .keys .now) (c .before .before .before .before .before .before .before .before .before .before .before .before .before .before .before .before .before .args .timed) (c .before .before .before .before .before .before .before .before .before .before .before .before .before .before .before .before .before .args .s + 3) (c .before .before .before .before .before .before .before .before .before .before .before .before .block-of4 .ensures) (c .before .before .before .before .before .before .before .before .before .before .five-blocks .ensures .1 .1 .1 .0) (c .before .cut-words4 .ensures)) (lane-cut (c .before .before .before .before .before .before .before .before .before .before .before .before .before .before .before .before .before .args .keys .now) (c .before .before .before .before .before .before .before .before .before .before .before .before .before .before .before .before .before .args .timed) (c .before .before .before .before .before .before .before .before .before .before .before .before .before .before .before .before .before .args .s + 4) (c .before .before .before .before .before .before .before .before .before .before .before .block-of5 .ensures) (c .before .before .before .before .before .before .before .before .before .before .five-blocks .ensures .1 .1 .1 .1) (c .cut-words5 .ensures))
+returns c =
+    let args = c .before .before .before .before .before .before .before .before .before .before .before .before .before .before .before .before .before .args in
+    let block-of = c .before .before .before .before .before .before .before .before .before .before .before .before .before .before .before .block-of in
+    let block-of2 = c .before .before .before .before .before .before .before .before .before .before .before .before .before .before .block-of2 in
+    let block-of3 = c .before .before .before .before .before .before .before .before .before .before .before .before .before .block-of3 in
+    let block-of4 = c .before .before .before .before .before .before .before .before .before .before .before .before .block-of4 in
+    let block-of5 = c .before .before .before .before .before .before .before .before .before .before .before .block-of5 in
+    let five-blocks = c .before .before .before .before .before .before .before .before .before .before .five-blocks in
+    let cut-words = c .before .before .before .before .cut-words in
+    let cut-words2 = c .before .before .before .cut-words2 in
+    let cut-words3 = c .before .before .cut-words3 in
+    five-cuts (cutBy (args .keys .now) (args .timed)) (args .s) (lane-cut (args .keys .now) (args .timed) (args .s) (block-of .ensures) (five-blocks .ensures .0) (cut-words .ensures)) (lane-cut (args .keys .now) (args .timed) (args .s + 1) (block-of2 .ensures) (five-blocks .ensures .1 .0) (cut-words2 .ensures)) (lane-cut (args .keys .now) (args .timed) (args .s + 2) (block-of3 .ensures) (five-blocks .ensures .1 .1 .0) (cut-words3 .ensures)) (lane-cut (args .keys .now) (args .timed) (args .s + 3) (block-of4 .ensures) (five-blocks .ensures .1 .1 .1 .0) (c .before .cut-words4 .ensures)) (lane-cut (args .keys .now) (args .timed) (args .s + 4) (block-of5 .ensures) (five-blocks .ensures .1 .1 .1 .1) (c .cut-words5 .ensures))
 
 pub next-cuts-spec : {M : Type 1} → statement M
 next-cuts-spec =

@@ -23,7 +23,11 @@ same-length : tie.Need-same-length
 same-length c = search needs
 
 returns : tie.Need-returns
-returns c = (refl, put-part (c .before .before .before .before .before .before .args .out .now) (c .before .before .before .before .before .before .args .at) (c .before .before .before .before .before .before .args .part .now) (c .before .before .before .before .before .before .pre) (c .before .before .copy .ensures .1))
+returns c =
+    let args = c .before .before .before .before .before .before .args in
+    let pre = c .before .before .before .before .before .before .pre in
+    let copy = c .before .before .copy in
+    (refl, put-part (args .out .now) (args .at) (args .part .now) (pre) (copy .ensures .1))
 
 pub put-bytes-spec : {M : Type 1} → statement M
 put-bytes-spec =

@@ -22,7 +22,12 @@ same-length : tie.Need-same-length
 same-length c = search needs
 
 returns-2 : tie.Need-returns-2
-returns-2 c = rw (c .before .before .before .before .before .factor .given .1) (factor-present (c .before .before .before .before .before .before .before .before .args .width) (c .before .before .before .before .before .before .before .before .args .at) (c .before .before .before .before .before .factor .given .0 .0) (c .before .before .before .before .before .before .before .before .args .out .now) (c .before .before .before .before .before .before .before .before .pre) (c .before .before .put-be .ensures))
+returns-2 c =
+    let args = c .before .before .before .before .before .before .before .before .args in
+    let pre = c .before .before .before .before .before .before .before .before .pre in
+    let factor = c .before .before .before .before .before .factor in
+    let put-be = c .before .before .put-be in
+    rw (factor .given .1) (factor-present (args .width) (args .at) (factor .given .0 .0) (args .out .now) (pre) (put-be .ensures))
 
 pub put-factor-spec : {M : Type 1} → statement M
 put-factor-spec =

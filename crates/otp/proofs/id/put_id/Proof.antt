@@ -8,10 +8,17 @@ put-factor-requires : tie.Need-put-factor-requires
 put-factor-requires c κs = search needs
 
 put-factor-requires-2 : tie.Need-put-factor-requires-2
-put-factor-requires-2 c κs = omega (arith, c .before .before .before .put-factor .ensures .0, factor-length 8 (c .before .before .before .before .before .before .before .args .time), c .before .before .before .put-factor .kept .0)
+put-factor-requires-2 c κs =
+    let args = c .before .before .before .before .before .before .before .args in
+    let put-factor = c .before .before .before .put-factor in
+    omega (arith, put-factor .ensures .0, factor-length 8 (args .time), put-factor .kept .0)
 
 put-bytes-requires : tie.Need-put-bytes-requires
-put-bytes-requires c κs = omega (arith, c .before .before .before .before .before .before .before .put-factor .ensures .0, factor-length 8 (c .before .before .before .before .before .before .before .before .before .before .before .args .time), c .before .before .before .before .before .before .before .put-factor .kept .0, c .before .before .before .put-factor2 .ensures .0, factor-length 4 (c .before .before .before .before .before .before .before .before .before .before .before .args .count), c .before .before .before .put-factor2 .kept .0)
+put-bytes-requires c κs =
+    let args = c .before .before .before .before .before .before .before .before .before .before .before .args in
+    let put-factor = c .before .before .before .before .before .before .before .put-factor in
+    let put-factor2 = c .before .before .before .put-factor2 in
+    omega (arith, put-factor .ensures .0, factor-length 8 (args .time), put-factor .kept .0, put-factor2 .ensures .0, factor-length 4 (args .count), put-factor2 .kept .0)
 
 add-if1 : tie.Need-add-if1
 add-if1 c = search needs

@@ -15,7 +15,11 @@ same-length : tie.Need-same-length
 same-length c = search needs
 
 returns : tie.Need-returns
-returns c = c .before .before .put-decimals .ensures ∙ password-shown (c .before .before .before .before .before .before .before .before .before .args .algorithm) (c .before .before .before .before .before .before .before .before .before .args .key .now) (c .before .before .before .before .before .before .before .before .before .args .time) (c .before .before .before .before .before .before .before .before .before .args .count) (c .before .before .before .before .before .before .before .before .before .args .challenge .now) (c .before .before .before .before .before .before .before .before .before .args .digits) (drop (c .before .before .before .before .before .before .before .before .before .args .digits) (c .before .before .before .before .before .before .before .before .before .args .out .now)) (c .before .before .before .before .truncated .ensures)
+returns c =
+    let args = c .before .before .before .before .before .before .before .before .before .args in
+    let truncated = c .before .before .before .before .truncated in
+    let put-decimals = c .before .before .put-decimals in
+    put-decimals .ensures ∙ password-shown (args .algorithm) (args .key .now) (args .time) (args .count) (args .challenge .now) (args .digits) (drop (args .digits) (args .out .now)) (truncated .ensures)
 
 pub password-with-spec : {M : Type 1} → statement M
 password-with-spec =

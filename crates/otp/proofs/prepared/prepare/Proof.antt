@@ -16,7 +16,11 @@ round-keys-requires : tie.Need-round-keys-requires
 round-keys-requires c κs = search needs
 
 returns : tie.Need-returns
-returns c = prepared-cipher (c .before .before .before .before .before .args .algorithm) (c .before .before .before .before .before .args .key .now) (c .before .before .before .if1 .taken) (c .before .before .before .before .before .pre) (c .before .round-keys .ensures)
+returns c =
+    let args = c .before .before .before .before .before .args in
+    let pre = c .before .before .before .before .before .pre in
+    let if1 = c .before .before .before .if1 in
+    prepared-cipher (args .algorithm) (args .key .now) (if1 .taken) (pre) (c .before .round-keys .ensures)
 
 returns-2 : tie.Need-returns-2
 returns-2 c = prepared-hash (c .before .before .args .algorithm) (c .before .before .args .key .now) (c .if1 .left)

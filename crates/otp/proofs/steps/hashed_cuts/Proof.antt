@@ -38,7 +38,10 @@ add-put-step : tie.Need-add-put-step
 add-put-step c = search needs
 
 put-step-requires-2 : tie.Need-put-step-requires-2
-put-step-requires-2 c κs = (search needs, (search needs, (search needs, (c .before .before .before .before .before .before .before .before .before .before .before .before .before .before .pre .0, c .before .before .before .before .put-step .ensures .1))))
+put-step-requires-2 c κs =
+    let pre = c .before .before .before .before .before .before .before .before .before .before .before .before .before .before .pre in
+    let put-step = c .before .before .before .before .put-step in
+    (search needs, (search needs, (search needs, (pre .0, put-step .ensures .1))))
 
 slice-aggregate-put-step-5 : tie.Need-slice-aggregate-put-step-5
 slice-aggregate-put-step-5 c = search needs
@@ -50,7 +53,10 @@ add-put-step-2 : tie.Need-add-put-step-2
 add-put-step-2 c = search needs
 
 put-step-requires-3 : tie.Need-put-step-requires-3
-put-step-requires-3 c κs = (search needs, (search needs, (search needs, (c .before .before .before .before .before .before .before .before .before .before .before .before .before .before .before .before .before .before .before .pre .0, c .before .before .before .before .put-step2 .ensures .1))))
+put-step-requires-3 c κs =
+    let pre = c .before .before .before .before .before .before .before .before .before .before .before .before .before .before .before .before .before .before .before .pre in
+    let put-step2 = c .before .before .before .before .put-step2 in
+    (search needs, (search needs, (search needs, (pre .0, put-step2 .ensures .1))))
 
 slice-aggregate-put-step-7 : tie.Need-slice-aggregate-put-step-7
 slice-aggregate-put-step-7 c = search needs
@@ -62,7 +68,10 @@ add-put-step-3 : tie.Need-add-put-step-3
 add-put-step-3 c = search needs
 
 put-step-requires-4 : tie.Need-put-step-requires-4
-put-step-requires-4 c κs = (search needs, (search needs, (search needs, (c .before .before .before .before .before .before .before .before .before .before .before .before .before .before .before .before .before .before .before .before .before .before .before .before .pre .0, c .before .before .before .before .put-step3 .ensures .1))))
+put-step-requires-4 c κs =
+    let pre = c .before .before .before .before .before .before .before .before .before .before .before .before .before .before .before .before .before .before .before .before .before .before .before .before .pre in
+    let put-step3 = c .before .before .before .before .put-step3 in
+    (search needs, (search needs, (search needs, (pre .0, put-step3 .ensures .1))))
 
 slice-aggregate-four-sums : tie.Need-slice-aggregate-four-sums
 slice-aggregate-four-sums c = search needs

@@ -11,7 +11,11 @@ same-length : tie.Need-same-length
 same-length c = search needs
 
 returns : tie.Need-returns
-returns c = (c .before .before .put-answer .ensures .0, λ p h. line-begun (c .before .before .before .before .before .before .before .before .args .line .now) (c .before .before .before .before .before .before .before .before .args .n) (c .before .before .before .before .before .before .before .before .args .part .now) (c .before .before .before .before .before .before .before .before .args .out .now) (c .before .before .before .before .before .before .before .before .args .at) p h (c .before .before .before .before .if1 .taken) (c .before .before .put-answer .ensures .1))
+returns c =
+    let args = c .before .before .before .before .before .before .before .before .args in
+    let if1 = c .before .before .before .before .if1 in
+    let put-answer = c .before .before .put-answer in
+    (put-answer .ensures .0, λ p h. line-begun (args .line .now) (args .n) (args .part .now) (args .out .now) (args .at) p h (if1 .taken) (put-answer .ensures .1))
 
 extend-requires : tie.Need-extend-requires
 extend-requires c κs = search needs
@@ -26,7 +30,11 @@ same-length-3 : tie.Need-same-length-3
 same-length-3 c = search needs
 
 returns-2 : tie.Need-returns-2
-returns-2 c = (c .before .before .put-pending .ensures .0, λ p h. c .before .before .put-pending .ensures .1 (p ++ c .before .before .before .before .before .before .before .before .before .before .before .before .before .args .part .now) (c .before .before .before .before .before .before .before .extend .ensures .1 p h))
+returns-2 c =
+    let args = c .before .before .before .before .before .before .before .before .before .before .before .before .before .args in
+    let extend = c .before .before .before .before .before .before .before .extend in
+    let put-pending = c .before .before .put-pending in
+    (put-pending .ensures .0, λ p h. put-pending .ensures .1 (p ++ args .part .now) (extend .ensures .1 p h))
 
 pub put-line-spec : {M : Type 1} → statement M
 put-line-spec =

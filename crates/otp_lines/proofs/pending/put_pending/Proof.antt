@@ -14,7 +14,12 @@ same-length : tie.Need-same-length
 same-length c = search needs
 
 returns : tie.Need-returns
-returns c = (omega (arith, c .before .before .put .ensures .place), λ p h. pending-long (c .before .before .before .before .before .before .before .before .args .line .now) (c .before .before .before .before .before .before .before .before .args .n) (c .before .before .before .before .before .before .before .before .args .out .now) (c .before .before .before .before .before .before .before .before .args .at) p h (c .before .before .before .before .before .before .before .before .pre .0) (c .before .before .before .before .before .if1 .taken) (c .before .before .put .ensures))
+returns c =
+    let args = c .before .before .before .before .before .before .before .before .args in
+    let pre = c .before .before .before .before .before .before .before .before .pre in
+    let if1 = c .before .before .before .before .before .if1 in
+    let put = c .before .before .put in
+    (omega (arith, put .ensures .place), λ p h. pending-long (args .line .now) (args .n) (args .out .now) (args .at) p h (pre .0) (if1 .taken) (put .ensures))
 
 sub-put-answer : tie.Need-sub-put-answer
 sub-put-answer c = search needs
@@ -32,7 +37,12 @@ same-length-2 : tie.Need-same-length-2
 same-length-2 c = search needs
 
 returns-2 : tie.Need-returns-2
-returns-2 c = (c .before .before .put-answer .ensures .0, λ p h. pending-short (c .before .before .before .before .before .before .before .before .args .line .now) (c .before .before .before .before .before .before .before .before .args .n) (c .before .before .before .before .before .before .before .before .args .out .now) (c .before .before .before .before .before .before .before .before .args .at) p h (c .before .before .before .before .before .before .before .before .pre .0) (c .before .before .before .before .before .if1 .left) (c .before .before .put-answer .ensures .1))
+returns-2 c =
+    let args = c .before .before .before .before .before .before .before .before .args in
+    let pre = c .before .before .before .before .before .before .before .before .pre in
+    let if1 = c .before .before .before .before .before .if1 in
+    let put-answer = c .before .before .put-answer in
+    (put-answer .ensures .0, λ p h. pending-short (args .line .now) (args .n) (args .out .now) (args .at) p h (pre .0) (if1 .left) (put-answer .ensures .1))
 
 pub put-pending-spec : {M : Type 1} → statement M
 put-pending-spec =

@@ -16,7 +16,10 @@ find-requires : tie.Need-find-requires Inv-loop μ-loop
 find-requires c κs = search needs
 
 loop-holds : tie.Need-loop-holds Inv-loop μ-loop
-loop-holds c = feeding-begin (c .before .before .before .before .args .line .now) (c .before .before .before .before .args .n) (c .before .before .before .before .args .piece .now) (c .before .before .before .before .args .out .now) (c .before .before .before .before .pre .0) (c .before .before .before .before .pre .1 .0) (c .find .ensures .0) (c .find .ensures .1)
+loop-holds c =
+    let args = c .before .before .before .before .args in
+    let pre = c .before .before .before .before .pre in
+    feeding-begin (args .line .now) (args .n) (args .piece .now) (args .out .now) (pre .0) (pre .1 .0) (c .find .ensures .0) (c .find .ensures .1)
 
 sub-put-line : tie.Need-sub-put-line Inv-loop μ-loop
 sub-put-line c = search needs

@@ -14,7 +14,11 @@ same-length : tie.Need-same-length
 same-length c = search needs
 
 returns-2 : tie.Need-returns-2
-returns-2 c = (omega (arith, c .before .before .put-pending .ensures .0), λ p h. finish-line (c .before .before .before .before .before .before .before .args .line .now) (c .before .before .before .before .before .before .before .args .n) (c .before .before .before .before .before .before .before .args .out .now) p h (c .before .before .before .before .if1 .left) (c .before .before .put-pending .ensures .1 p h))
+returns-2 c =
+    let args = c .before .before .before .before .before .before .before .args in
+    let if1 = c .before .before .before .before .if1 in
+    let put-pending = c .before .before .put-pending in
+    (omega (arith, put-pending .ensures .0), λ p h. finish-line (args .line .now) (args .n) (args .out .now) p h (if1 .left) (put-pending .ensures .1 p h))
 
 pub finish-spec : {M : Type 1} → statement M
 finish-spec = tie.close (tie.spec returns put-pending-requires same-length returns-2)

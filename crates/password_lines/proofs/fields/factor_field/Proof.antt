@@ -19,13 +19,27 @@ enum-told : tie.Need-enum-told
 enum-told c = search needs
 
 returns-2 : tie.Need-returns-2
-returns-2 c = factor-bad (c .before .before .before .before .before .args .most) (omega arith) (c .before .before .before .before .before .args .field .now) (c .before .before .before .if1 .left) (sym (c .before .before .decimal .ensures) ∙ c .enum-told .given .1)
+returns-2 c =
+    let args = c .before .before .before .before .before .args in
+    let if1 = c .before .before .before .if1 in
+    let decimal = c .before .before .decimal in
+    factor-bad (args .most) (omega arith) (args .field .now) (if1 .left) (sym (decimal .ensures) ∙ c .enum-told .given .1)
 
 returns-3 : tie.Need-returns-3
-returns-3 c = factor-within (c .before .before .before .before .before .before .before .args .most) (omega arith) (c .before .before .before .before .before .before .before .args .field .now) (c .before .before .before .before .before .if1 .left) (sym (c .before .before .before .before .decimal .ensures) ∙ c .before .before .x .given .1) (c .if2 .taken)
+returns-3 c =
+    let args = c .before .before .before .before .before .before .before .args in
+    let if1 = c .before .before .before .before .before .if1 in
+    let decimal = c .before .before .before .before .decimal in
+    let x = c .before .before .x in
+    factor-within (args .most) (omega arith) (args .field .now) (if1 .left) (sym (decimal .ensures) ∙ x .given .1) (c .if2 .taken)
 
 returns-4 : tie.Need-returns-4
-returns-4 c = factor-above (c .before .before .before .before .before .before .before .args .most) (omega arith) (c .before .before .before .before .before .before .before .args .field .now) (c .before .before .before .before .before .if1 .left) (sym (c .before .before .before .before .decimal .ensures) ∙ c .before .before .x .given .1) (c .if2 .left)
+returns-4 c =
+    let args = c .before .before .before .before .before .before .before .args in
+    let if1 = c .before .before .before .before .before .if1 in
+    let decimal = c .before .before .before .before .decimal in
+    let x = c .before .before .x in
+    factor-above (args .most) (omega arith) (args .field .now) (if1 .left) (sym (decimal .ensures) ∙ x .given .1) (c .if2 .left)
 
 pub factor-field-spec : {M : Type 1} → statement M
 factor-field-spec =

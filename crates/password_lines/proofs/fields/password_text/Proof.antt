@@ -15,10 +15,16 @@ refused-requires : tie.Need-refused-requires
 refused-requires c κs = search needs
 
 returns : tie.Need-returns
-returns c = c .refused .ensures ∙ text-refused (c .before .before .before .before .before .before .before .args .algorithm) (c .before .before .before .before .before .before .before .args .key .now) (c .before .before .before .before .before .before .before .args .time) (c .before .before .before .before .before .before .before .args .count) (c .before .before .before .before .before .before .before .args .challenge .now) (c .before .before .before .before .before .before .before .args .digits) (replicate 10 0) refl (c .before .before .before .password .ensures .0) (c .before .if1 .taken)
+returns c =
+    let args = c .before .before .before .before .before .before .before .args in
+    let password = c .before .before .before .password in
+    c .refused .ensures ∙ text-refused (args .algorithm) (args .key .now) (args .time) (args .count) (args .challenge .now) (args .digits) (replicate 10 0) refl (password .ensures .0) (c .before .if1 .taken)
 
 returns-2 : tie.Need-returns-2
-returns-2 c = text-printed (c .before .before .before .before .before .before .args .algorithm) (c .before .before .before .before .before .before .args .key .now) (c .before .before .before .before .before .before .args .time) (c .before .before .before .before .before .before .args .count) (c .before .before .before .before .before .before .args .challenge .now) (c .before .before .before .before .before .before .args .digits) refl (c .before .before .password .ensures .0) (c .before .before .password .ensures .1) (c .if1 .left)
+returns-2 c =
+    let args = c .before .before .before .before .before .before .args in
+    let password = c .before .before .password in
+    text-printed (args .algorithm) (args .key .now) (args .time) (args .count) (args .challenge .now) (args .digits) refl (password .ensures .0) (password .ensures .1) (c .if1 .left)
 
 pub password-text-spec : {M : Type 1} → statement M
 password-text-spec =

@@ -10,7 +10,11 @@ first-with-requires : tie.Need-first-with-requires
 first-with-requires c κs = search needs
 
 returns : tie.Need-returns
-returns c = found-swapped (c .before .before .before .args .table .now) (c .before .before .before .args .serial) (λ i. c .before .before .shared-slice-known .given i .fits) (c .before .before .before .fits .serial .fits) (c .before .swapped .ensures) (c .first-with .ensures)
+returns c =
+    let args = c .before .before .before .args in
+    let fits = c .before .before .before .fits in
+    let shared-slice-known = c .before .before .shared-slice-known in
+    found-swapped (args .table .now) (args .serial) (λ i. shared-slice-known .given i .fits) (fits .serial .fits) (c .before .swapped .ensures) (c .first-with .ensures)
 
 pub find-row-spec : {M : Type 1} → statement M
 find-row-spec = tie.close (tie.spec swapped-requires first-with-requires returns)

@@ -28,7 +28,10 @@ add-at : tie.Need-add-at Inv-loop μ-loop
 add-at c = let h = enough-left (c .before .before .before .before .args .table .now) (c .before .before .before .before .args .wanted) (c .before .before .loop .at) (c .before .before .loop .left) (sym (c .before .four-lack .ensures) ∙ c .if1 .taken) in search needs
 
 sub-left : tie.Need-sub-left Inv-loop μ-loop
-sub-left c = enough-left (c .before .before .before .before .args .table .now) (c .before .before .before .before .args .wanted) (c .before .before .loop .at) (c .before .before .loop .left) (sym (c .before .four-lack .ensures) ∙ c .if1 .taken)
+sub-left c =
+    let args = c .before .before .before .before .args in
+    let loop = c .before .before .loop in
+    enough-left (args .table .now) (args .wanted) (loop .at) (loop .left) (sym (c .before .four-lack .ensures) ∙ c .if1 .taken)
 
 loop-less : tie.Need-loop-less Inv-loop μ-loop
 loop-less c = let h = enough-left (c .before .before .before .before .args .table .now) (c .before .before .before .before .args .wanted) (c .before .before .loop .at) (c .before .before .loop .left) (sym (c .before .four-lack .ensures) ∙ c .if1 .taken) in omega arith

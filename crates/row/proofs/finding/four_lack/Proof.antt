@@ -34,7 +34,12 @@ serial-is-requires-4 : tie.Need-serial-is-requires-4
 serial-is-requires-4 c κs = search needs
 
 returns-2 : tie.Need-returns-2
-returns-2 c = four-left (c .before .before .before .before .before .before .args .table .now) (c .before .before .before .before .before .before .args .wanted) (c .before .before .before .before .before .before .args .at) (c .before .before .before .before .before .before .args .left) (c .before .before .before .before .if1 .left) (c .before .before .before .serial-is .ensures) (c .before .before .serial-is2 .ensures) (c .before .serial-is3 .ensures) (c .serial-is4 .ensures)
+returns-2 c =
+    let args = c .before .before .before .before .before .before .args in
+    let if1 = c .before .before .before .before .if1 in
+    let serial-is = c .before .before .before .serial-is in
+    let serial-is2 = c .before .before .serial-is2 in
+    four-left (args .table .now) (args .wanted) (args .at) (args .left) (if1 .left) (serial-is .ensures) (serial-is2 .ensures) (c .before .serial-is3 .ensures) (c .serial-is4 .ensures)
 
 pub four-lack-spec : {M : Type 1} → statement M
 four-lack-spec =

@@ -21,7 +21,12 @@ offset-ok-requires c κs = search needs
 
 returns : tie.Need-returns
 unfolding numbersOk numberTests
-returns c = rw (c .before .before .before .before .before .before .before .offset-ok .ensures, c .before .before .before .before .before .before .before .before .before .before .last-next .ensures, c .before .before .before .before .before .before .before .before .before .before .before .before .before .before .before .period-ok .ensures) (all-made (numberTests (c .before .before .before .before .before .before .before .before .before .before .before .before .before .before .before .before .before .before .before .before .before .before .before .before .args .row)))
+returns c =
+    let args = c .before .before .before .before .before .before .before .before .before .before .before .before .before .before .before .before .before .before .before .before .before .before .before .before .args in
+    let period-ok = c .before .before .before .before .before .before .before .before .before .before .before .before .before .before .before .period-ok in
+    let last-next = c .before .before .before .before .before .before .before .before .before .before .last-next in
+    let offset-ok = c .before .before .before .before .before .before .before .offset-ok in
+    rw (offset-ok .ensures, last-next .ensures, period-ok .ensures) (all-made (numberTests (args .row)))
 
 pub numbers-ok-spec : {M : Type 1} → statement M
 numbers-ok-spec =

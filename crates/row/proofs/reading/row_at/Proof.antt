@@ -101,7 +101,13 @@ be-eight-requires-5 c κs = search needs
 
 returns : tie.Need-returns
 unfolding rowAt
-returns c = rw (c .before .before .before .before .before .before .before .before .before .before .be-eight .ensures, c .before .before .before .before .before .before .before .before .before .be-at .ensures .0, c .before .before .before .before .be-eight2 .ensures, c .before .before .before .be-at2 .ensures .0, c .before .before .be-eight3 .ensures, c .before .be-eight4 .ensures, c .be-eight5 .ensures)
+returns c =
+    let be-eight = c .before .before .before .before .before .before .before .before .before .before .be-eight in
+    let be-at = c .before .before .before .before .before .before .before .before .before .be-at in
+    let be-eight2 = c .before .before .before .before .be-eight2 in
+    let be-at2 = c .before .before .before .be-at2 in
+    let be-eight3 = c .before .before .be-eight3 in
+    rw (be-eight .ensures, be-at .ensures .0, be-eight2 .ensures, be-at2 .ensures .0, be-eight3 .ensures, c .before .be-eight4 .ensures, c .be-eight5 .ensures)
 
 pub row-at-spec : {M : Type 1} → statement M
 row-at-spec =

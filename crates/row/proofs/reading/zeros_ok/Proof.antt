@@ -46,7 +46,12 @@ le-eight-requires : tie.Need-le-eight-requires
 le-eight-requires c κs = search needs
 
 returns : tie.Need-returns
-returns c = zeros-read (c .before .before .before .before .before .before .args .table .now) (c .before .before .before .before .before .before .args .at) (λ i. c .before .before .before .before .before .shared-slice-known .given i .fits) (c .before .before .before .before .before .before .pre .0) (c .before .before .before .before .before .before .pre .1) (c .before .before .zeros .ensures) (c .before .be-at .ensures .0) (c .le-eight .ensures)
+returns c =
+    let args = c .before .before .before .before .before .before .args in
+    let pre = c .before .before .before .before .before .before .pre in
+    let shared-slice-known = c .before .before .before .before .before .shared-slice-known in
+    let zeros = c .before .before .zeros in
+    zeros-read (args .table .now) (args .at) (λ i. shared-slice-known .given i .fits) (pre .0) (pre .1) (zeros .ensures) (c .before .be-at .ensures .0) (c .le-eight .ensures)
 
 pub zeros-ok-spec : {M : Type 1} → statement M
 zeros-ok-spec =

@@ -20,7 +20,10 @@ same-length-2 : tie.Need-same-length-2
 same-length-2 c = search needs
 
 returns-2 : tie.Need-returns-2
-returns-2 c = sym (rw (sym (c .before .be-at .ensures .0) ∙ c .if1 .left) at (putBe-beAt 2 (c .before .before .before .before .args .table .now) (c .before .before .before .before .args .at) (λ i. c .before .before .before .slice-known .given i .fits)))
+returns-2 c =
+    let args = c .before .before .before .before .args in
+    let slice-known = c .before .before .before .slice-known in
+    sym (rw (sym (c .before .be-at .ensures .0) ∙ c .if1 .left) at (putBe-beAt 2 (args .table .now) (args .at) (λ i. slice-known .given i .fits)))
 
 pub renew-two-spec : {M : Type 1} → statement M
 renew-two-spec =

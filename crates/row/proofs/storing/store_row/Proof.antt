@@ -27,7 +27,12 @@ same-length c = search needs
 
 returns : tie.Need-returns
 unfolding storeRow
-returns c = c .before .before .store-readings .ensures ∙ rw (c .before .before .before .before .before .before .store-steps .ensures, c .before .before .before .before .before .before .before .before .before .before .renew-byte2 .ensures, c .before .before .before .before .before .before .before .before .before .before .before .before .before .before .renew-byte .ensures)
+returns c =
+    let renew-byte = c .before .before .before .before .before .before .before .before .before .before .before .before .before .before .renew-byte in
+    let renew-byte2 = c .before .before .before .before .before .before .before .before .before .before .renew-byte2 in
+    let store-steps = c .before .before .before .before .before .before .store-steps in
+    let store-readings = c .before .before .store-readings in
+    store-readings .ensures ∙ rw (store-steps .ensures, renew-byte2 .ensures, renew-byte .ensures)
 
 pub store-row-spec : {M : Type 1} → statement M
 store-row-spec =

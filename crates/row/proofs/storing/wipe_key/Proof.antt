@@ -25,7 +25,11 @@ same-length : tie.Need-same-length
 same-length c = search needs
 
 returns : tie.Need-returns
-returns c = key-wiped (c .before .before .before .before .before .args .table .now) (c .before .before .before .before .before .args .at) (c .before .before .before .before .before .pre) (c .before .before .clear .ensures)
+returns c =
+    let args = c .before .before .before .before .before .args in
+    let pre = c .before .before .before .before .before .pre in
+    let clear = c .before .before .clear in
+    key-wiped (args .table .now) (args .at) (pre) (clear .ensures)
 
 pub wipe-key-spec : {M : Type 1} → statement M
 wipe-key-spec =

@@ -63,7 +63,11 @@ same-length : tie.Need-same-length
 same-length c = simp length-set at (c .before .before .put-be .kept .0)
 
 returns : tie.Need-returns
-returns c = head-written (c .before .before .before .before .before .before .args .table .now) (c .before .before .before .before .before .before .args .at) (c .before .before .before .before .before .before .pre) (c .before .before .before .before .before .before .args .row) (c .before .before .put-be .ensures)
+returns c =
+    let args = c .before .before .before .before .before .before .args in
+    let pre = c .before .before .before .before .before .before .pre in
+    let put-be = c .before .before .put-be in
+    head-written (args .table .now) (args .at) (pre) (args .row) (put-be .ensures)
 
 pub write-head-spec : {M : Type 1} → statement M
 write-head-spec =

@@ -41,7 +41,12 @@ same-length : tie.Need-same-length
 same-length c = search needs
 
 returns : tie.Need-returns
-returns c = key-written (c .before .before .before .before .before .before .before .before .before .before .args .table .now) (c .before .before .before .before .before .before .before .before .before .before .args .at) (c .before .before .before .before .before .before .before .before .before .before .pre .0) (c .before .before .before .before .before .before .before .before .before .before .args .key .now) (c .before .before .before .before .before .before .before .before .before .before .pre .1) (c .before .before .before .before .before .before .copy .ensures .1) refl (c .before .before .clear .ensures)
+returns c =
+    let args = c .before .before .before .before .before .before .before .before .before .before .args in
+    let pre = c .before .before .before .before .before .before .before .before .before .before .pre in
+    let copy = c .before .before .before .before .before .before .copy in
+    let clear = c .before .before .clear in
+    key-written (args .table .now) (args .at) (pre .0) (args .key .now) (pre .1) (copy .ensures .1) refl (clear .ensures)
 
 pub write-key-spec : {M : Type 1} → statement M
 write-key-spec =

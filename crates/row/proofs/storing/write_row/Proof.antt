@@ -19,7 +19,14 @@ same-length : tie.Need-same-length
 same-length c = search needs
 
 returns : tie.Need-returns
-returns c = row-written (c .before .before .before .before .before .before .before .before .before .before .before .before .before .before .before .before .before .before .args .table .now) (c .before .before .before .before .before .before .before .before .before .before .before .before .before .before .before .before .before .before .args .at) (c .before .before .before .before .before .before .before .before .before .before .before .before .before .before .before .before .before .before .pre .0) (c .before .before .before .before .before .before .before .before .before .before .before .before .before .before .before .before .before .before .args .row) (c .before .before .before .before .before .before .before .before .before .before .before .before .before .before .before .before .before .before .args .key .now) (c .before .before .before .before .before .before .before .before .before .before .before .before .before .before .before .before .before .before .pre .1) (c .before .before .before .before .before .before .before .before .before .before .before .before .before .before .write-head .ensures) (c .before .before .before .before .before .before .before .before .before .before .write-key .ensures) (c .before .before .before .before .before .before .write-steps .ensures) (c .before .before .write-times .ensures)
+returns c =
+    let args = c .before .before .before .before .before .before .before .before .before .before .before .before .before .before .before .before .before .before .args in
+    let pre = c .before .before .before .before .before .before .before .before .before .before .before .before .before .before .before .before .before .before .pre in
+    let write-head = c .before .before .before .before .before .before .before .before .before .before .before .before .before .before .write-head in
+    let write-key = c .before .before .before .before .before .before .before .before .before .before .write-key in
+    let write-steps = c .before .before .before .before .before .before .write-steps in
+    let write-times = c .before .before .write-times in
+    row-written (args .table .now) (args .at) (pre .0) (args .row) (args .key .now) (pre .1) (write-head .ensures) (write-key .ensures) (write-steps .ensures) (write-times .ensures)
 
 pub write-row-spec : {M : Type 1} → statement M
 write-row-spec =

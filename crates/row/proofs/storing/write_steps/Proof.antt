@@ -28,7 +28,12 @@ same-length : tie.Need-same-length
 same-length c = search needs
 
 returns : tie.Need-returns
-returns c = steps-written (c .before .before .before .before .before .before .before .before .before .args .table .now) (c .before .before .before .before .before .before .before .before .before .args .at) (c .before .before .before .before .before .before .before .before .before .pre) (c .before .before .before .before .before .before .before .before .before .args .row) (c .before .before .before .before .before .before .store-steps .ensures) (c .before .before .clear .ensures)
+returns c =
+    let args = c .before .before .before .before .before .before .before .before .before .args in
+    let pre = c .before .before .before .before .before .before .before .before .before .pre in
+    let store-steps = c .before .before .before .before .before .before .store-steps in
+    let clear = c .before .before .clear in
+    steps-written (args .table .now) (args .at) (pre) (args .row) (store-steps .ensures) (clear .ensures)
 
 pub write-steps-spec : {M : Type 1} → statement M
 write-steps-spec =

@@ -43,7 +43,14 @@ same-length : tie.Need-same-length
 same-length c = search needs
 
 returns : tie.Need-returns
-returns c = times-written (c .before .before .before .before .before .before .before .before .before .before .before .before .before .before .before .before .before .before .args .table .now) (c .before .before .before .before .before .before .before .before .before .before .before .before .before .before .before .before .before .before .args .at) (c .before .before .before .before .before .before .before .before .before .before .before .before .before .before .before .before .before .before .pre) (c .before .before .before .before .before .before .before .before .before .before .before .before .before .before .before .before .before .before .args .row) (c .before .before .before .before .before .before .before .before .before .before .before .before .before .before .put-be .ensures) (c .before .before .before .before .before .before .before .before .before .before .put-be2 .ensures) (c .before .before .before .before .before .before .store-readings .ensures) (c .before .before .clear .ensures)
+returns c =
+    let args = c .before .before .before .before .before .before .before .before .before .before .before .before .before .before .before .before .before .before .args in
+    let pre = c .before .before .before .before .before .before .before .before .before .before .before .before .before .before .before .before .before .before .pre in
+    let put-be = c .before .before .before .before .before .before .before .before .before .before .before .before .before .before .put-be in
+    let put-be2 = c .before .before .before .before .before .before .before .before .before .before .put-be2 in
+    let store-readings = c .before .before .before .before .before .before .store-readings in
+    let clear = c .before .before .clear in
+    times-written (args .table .now) (args .at) (pre) (args .row) (put-be .ensures) (put-be2 .ensures) (store-readings .ensures) (clear .ensures)
 
 pub write-times-spec : {M : Type 1} → statement M
 write-times-spec =

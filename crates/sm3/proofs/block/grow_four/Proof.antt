@@ -31,7 +31,13 @@ same-length : tie.Need-same-length
 same-length c = search needs
 
 returns-2 : tie.Need-returns-2
-returns-2 c = four-grown (c .before .before .before .before .before .before .before .before .before .before .before .before .before .before .before .before .before .before .args .w .now) (c .before .before .before .before .before .before .before .before .before .before .before .before .before .before .before .before .before .before .args .j) (c .before .before .before .before .before .before .before .before .before .before .before .before .before .before .grow .ensures) (c .before .before .before .before .before .before .before .before .before .before .grow2 .ensures) (c .before .before .before .before .before .before .grow3 .ensures) (c .before .before .grow4 .ensures)
+returns-2 c =
+    let args = c .before .before .before .before .before .before .before .before .before .before .before .before .before .before .before .before .before .before .args in
+    let grow = c .before .before .before .before .before .before .before .before .before .before .before .before .before .before .grow in
+    let grow2 = c .before .before .before .before .before .before .before .before .before .before .grow2 in
+    let grow3 = c .before .before .before .before .before .before .grow3 in
+    let grow4 = c .before .before .grow4 in
+    four-grown (args .w .now) (args .j) (grow .ensures) (grow2 .ensures) (grow3 .ensures) (grow4 .ensures)
 
 pub grow-four-spec : {M : Type 1} → statement M
 grow-four-spec =

@@ -40,7 +40,10 @@ loop-less : tie.Need-loop-less Inv-loop μ-loop
 loop-less c = search needs
 
 loop-again : tie.Need-loop-again Inv-loop μ-loop
-loop-again c = (search needs, (rw length-set (c .before .before .loop .inv .1 .0), load-more (c .before .before .before .before .args .m .now) (c .before .before .before .before .args .at) (c .before .before .loop .j) (c .before .before .loop .w) (omega arith) (c .before .before .loop .inv .1 .1) (c .word-at .ensures)))
+loop-again c =
+    let args = c .before .before .before .before .args in
+    let loop = c .before .before .loop in
+    (search needs, (rw length-set (loop .inv .1 .0), load-more (args .m .now) (args .at) (loop .j) (loop .w) (omega arith) (loop .inv .1 .1) (c .word-at .ensures)))
 
 returns : tie.Need-returns Inv-loop μ-loop
 returns c = (search needs, let e : c .before .loop .j ≡ 16 = omega arith in rw e at (c .before .loop .inv .1 .1))

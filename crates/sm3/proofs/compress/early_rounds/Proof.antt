@@ -23,7 +23,11 @@ grow-four-requires : tie.Need-grow-four-requires Inv-loop μ-loop
 grow-four-requires c κs = let l = reached-length (c .before .before .loop .inv .1 .1) in omega arith
 
 four-early-requires : tie.Need-four-early-requires Inv-loop μ-loop
-four-early-requires c κs = (omega arith, (c .before .before .before .grow-four .kept .0 ∙ reached-length (c .before .before .before .before .before .before .loop .inv .1 .1) ∙ c .before .before .before .before .before .before .before .before .before .pre .0, c .before .before .before .before .before .before .before .before .before .pre .1))
+four-early-requires c κs =
+    let pre = c .before .before .before .before .before .before .before .before .before .pre in
+    let loop = c .before .before .before .before .before .before .loop in
+    let grow-four = c .before .before .before .grow-four in
+    (omega arith, (grow-four .kept .0 ∙ reached-length (loop .inv .1 .1) ∙ pre .0, pre .1))
 
 add-i : tie.Need-add-i Inv-loop μ-loop
 add-i c = search needs
@@ -32,7 +36,11 @@ loop-less : tie.Need-loop-less Inv-loop μ-loop
 loop-less c = search needs
 
 loop-again : tie.Need-loop-again Inv-loop μ-loop
-loop-again c = (omega arith, (omega arith, reached-more (c .before .before .before .before .before .before .before .loop .i) 0 (c .before .before .before .before .before .before .before .loop .i) (c .before .before .before .before .before .before .before .before .before .before .args .w .now) (c .before .before .before .before .before .before .before .before .before .before .args .v) (c .before .before .before .before .before .before .before .loop .inv .1 .1) (sym (zero-add (c .before .before .before .before .before .before .before .loop .i))) (c .before .before .before .before .grow-four .ensures) (c .four-early .ensures)))
+loop-again c =
+    let args = c .before .before .before .before .before .before .before .before .before .before .args in
+    let loop = c .before .before .before .before .before .before .before .loop in
+    let grow-four = c .before .before .before .before .grow-four in
+    (omega arith, (omega arith, reached-more (loop .i) 0 (loop .i) (args .w .now) (args .v) (loop .inv .1 .1) (sym (zero-add (loop .i))) (grow-four .ensures) (c .four-early .ensures)))
 
 same-length : tie.Need-same-length Inv-loop μ-loop
 same-length c = reached-length (c .before .loop .inv .1 .1)

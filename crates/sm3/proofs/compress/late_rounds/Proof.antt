@@ -25,7 +25,11 @@ add-four-late : tie.Need-add-four-late Inv-loop μ-loop
 add-four-late c = search needs
 
 four-late-requires : tie.Need-four-late-requires Inv-loop μ-loop
-four-late-requires c κs = (omega arith, (omega arith, (c .before .before .before .grow-four .kept .0 ∙ reached-length (c .before .before .before .before .before .before .loop .inv .1 .1) ∙ c .before .before .before .before .before .before .before .before .before .pre .0, c .before .before .before .before .before .before .before .before .before .pre .1)))
+four-late-requires c κs =
+    let pre = c .before .before .before .before .before .before .before .before .before .pre in
+    let loop = c .before .before .before .before .before .before .loop in
+    let grow-four = c .before .before .before .grow-four in
+    (omega arith, (omega arith, (grow-four .kept .0 ∙ reached-length (loop .inv .1 .1) ∙ pre .0, pre .1)))
 
 add-i : tie.Need-add-i Inv-loop μ-loop
 add-i c = search needs
@@ -34,7 +38,11 @@ loop-less : tie.Need-loop-less Inv-loop μ-loop
 loop-less c = search needs
 
 loop-again : tie.Need-loop-again Inv-loop μ-loop
-loop-again c = (omega arith, (omega arith, reached-more (c .before .before .before .before .before .before .before .loop .i) 16 (16 + c .before .before .before .before .before .before .before .loop .i) (c .before .before .before .before .before .before .before .before .before .before .args .w .now) (c .before .before .before .before .before .before .before .before .before .before .args .v) (c .before .before .before .before .before .before .before .loop .inv .1 .1) refl (c .before .before .before .before .grow-four .ensures) (c .four-late .ensures)))
+loop-again c =
+    let args = c .before .before .before .before .before .before .before .before .before .before .args in
+    let loop = c .before .before .before .before .before .before .before .loop in
+    let grow-four = c .before .before .before .before .grow-four in
+    (omega arith, (omega arith, reached-more (loop .i) 16 (16 + loop .i) (args .w .now) (args .v) (loop .inv .1 .1) refl (grow-four .ensures) (c .four-late .ensures)))
 
 same-length : tie.Need-same-length Inv-loop μ-loop
 same-length c = reached-length (c .before .loop .inv .1 .1)

@@ -25,7 +25,14 @@ wrapping-add-u32-requires-7 : tie.Need-wrapping-add-u32-requires-7
 wrapping-add-u32-requires-7 c κs = search needs
 
 returns : tie.Need-returns
-returns c = total-of (c .before .before .before .before .before .before .before .args .r) (c .before .before .before .before .before .before .wrapping-add-u32 .ensures) (c .before .before .before .before .before .wrapping-add-u322 .ensures) (c .before .before .before .before .wrapping-add-u323 .ensures) (c .before .before .before .wrapping-add-u324 .ensures) (c .before .before .wrapping-add-u325 .ensures) (c .before .wrapping-add-u326 .ensures) (c .wrapping-add-u327 .ensures)
+returns c =
+    let args = c .before .before .before .before .before .before .before .args in
+    let wrapping-add-u32 = c .before .before .before .before .before .before .wrapping-add-u32 in
+    let wrapping-add-u322 = c .before .before .before .before .before .wrapping-add-u322 in
+    let wrapping-add-u323 = c .before .before .before .before .wrapping-add-u323 in
+    let wrapping-add-u324 = c .before .before .before .wrapping-add-u324 in
+    let wrapping-add-u325 = c .before .before .wrapping-add-u325 in
+    total-of (args .r) (wrapping-add-u32 .ensures) (wrapping-add-u322 .ensures) (wrapping-add-u323 .ensures) (wrapping-add-u324 .ensures) (wrapping-add-u325 .ensures) (c .before .wrapping-add-u326 .ensures) (c .wrapping-add-u327 .ensures)
 
 pub word-sum-spec : {M : Type 1} → statement M
 word-sum-spec =

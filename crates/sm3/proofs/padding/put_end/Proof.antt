@@ -43,7 +43,12 @@ same-length : tie.Need-same-length
 same-length c = c .before .before .put-be .kept .0 ∙ rw length-set (c .before .before .before .before .before .before .copy .kept .1 .0)
 
 returns : tie.Need-returns
-returns c = end-of (c .before .before .before .before .before .before .before .before .before .before .before .args .message .now) (c .before .before .before .before .before .before .before .before .before .before .before .args .blocks) (c .before .before .before .before .before .before .before .before .before .before .before .pre .1 .0) (rw (c .before .before .before .before .before .before .before .before .before .before .before .pre .1 .1) at (c .before .before .before .before .before .before .copy .ensures .1)) (c .before .before .put-be .ensures)
+returns c =
+    let args = c .before .before .before .before .before .before .before .before .before .before .before .args in
+    let pre = c .before .before .before .before .before .before .before .before .before .before .before .pre in
+    let copy = c .before .before .before .before .before .before .copy in
+    let put-be = c .before .before .put-be in
+    end-of (args .message .now) (args .blocks) (pre .1 .0) (rw (pre .1 .1) at (copy .ensures .1)) (put-be .ensures)
 
 pub put-end-spec : {M : Type 1} → statement M
 put-end-spec =

@@ -42,7 +42,12 @@ round-with-requires : tie.Need-round-with-requires
 round-with-requires c κs = search needs
 
 returns : tie.Need-returns
-returns c = round-of (c .before .before .before .before .before .before .before .before .before .args .j) (c .before .before .before .before .before .before .before .before .before .args .w .now) (c .before .before .before .before .before .before .before .before .before .args .t .now) (c .before .before .before .before .before .before .before .before .before .args .r) (omega arith) (c .before .before .before .before .before .before .before .before .before .pre .1 .1) (c .before .before .before .before .before .before .parity .ensures ∙ ff-early (c .before .before .before .before .before .before .before .before .before .args .j) (c .before .before .before .before .before .before .before .before .before .args .r .a) (c .before .before .before .before .before .before .before .before .before .args .r .b) (c .before .before .before .before .before .before .before .before .before .args .r .c) (c .before .before .before .before .before .before .before .before .before .pre .0)) (c .before .before .before .before .before .parity2 .ensures ∙ gg-early (c .before .before .before .before .before .before .before .before .before .args .j) (c .before .before .before .before .before .before .before .before .before .args .r .e) (c .before .before .before .before .before .before .before .before .before .args .r .f) (c .before .before .before .before .before .before .before .before .before .args .r .g) (c .before .before .before .before .before .before .before .before .before .pre .0)) (c .round-with .ensures)
+returns c =
+    let args = c .before .before .before .before .before .before .before .before .before .args in
+    let pre = c .before .before .before .before .before .before .before .before .before .pre in
+    let parity = c .before .before .before .before .before .before .parity in
+    let parity2 = c .before .before .before .before .before .parity2 in
+    round-of (args .j) (args .w .now) (args .t .now) (args .r) (omega arith) (pre .1 .1) (parity .ensures ∙ ff-early (args .j) (args .r .a) (args .r .b) (args .r .c) (pre .0)) (parity2 .ensures ∙ gg-early (args .j) (args .r .e) (args .r .f) (args .r .g) (pre .0)) (c .round-with .ensures)
 
 pub early-round-spec : {M : Type 1} → statement M
 early-round-spec =

@@ -24,7 +24,12 @@ same-length : tie.Need-same-length
 same-length c = search needs
 
 returns : tie.Need-returns
-returns c = c .iterate .ensures .1 ∙ ap wordTotal (hash-sum-of (c .before .before .before .before .before .before .before .before .before .before .args .m .now) (c .before .before .before .before .before .before .before .before .before .before .args .len) (c .before .before .before .before .before .before .before .before .before .before .pre .0) (c .before .before .before .before .before .before .before .before .before .before .pre .1 .0) (c .before .before .before .before .before .before .pad .ensures .0) (c .before .before .before .before .before .before .pad .ensures .1) (c .before .before .before .start .ensures) (c .iterate .ensures .0))
+returns c =
+    let args = c .before .before .before .before .before .before .before .before .before .before .args in
+    let pre = c .before .before .before .before .before .before .before .before .before .before .pre in
+    let pad = c .before .before .before .before .before .before .pad in
+    let start = c .before .before .before .start in
+    c .iterate .ensures .1 ∙ ap wordTotal (hash-sum-of (args .m .now) (args .len) (pre .0) (pre .1 .0) (pad .ensures .0) (pad .ensures .1) (start .ensures) (c .iterate .ensures .0))
 
 pub hash-sum-spec : {M : Type 1} → statement M
 hash-sum-spec =

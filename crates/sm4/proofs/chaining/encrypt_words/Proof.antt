@@ -22,7 +22,10 @@ output-words-requires : tie.Need-output-words-requires
 output-words-requires c κs = search needs
 
 returns-2 : tie.Need-returns-2
-returns-2 c = words-done (c .before .before .before .before .before .before .args .keys .now) (c .before .before .before .before .before .before .args .block) (c .before .before .before .before .if1 .left) (c .before .rounds .ensures) (c .output-words .ensures)
+returns-2 c =
+    let args = c .before .before .before .before .before .before .args in
+    let if1 = c .before .before .before .before .if1 in
+    words-done (args .keys .now) (args .block) (if1 .left) (c .before .rounds .ensures) (c .output-words .ensures)
 
 pub encrypt-words-spec : {M : Type 1} → statement M
 encrypt-words-spec =

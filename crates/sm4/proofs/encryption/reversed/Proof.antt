@@ -40,7 +40,12 @@ put-be-requires-4 : tie.Need-put-be-requires-4
 put-be-requires-4 c κs = search needs
 
 returns : tie.Need-returns
-returns c = reversed-stored (c .before .before .before .before .before .before .before .before .before .before .before .before .before .before .before .before .args .q) (c .before .before .before .before .before .before .before .before .before .before .before .before .before .put-be .ensures) (c .before .before .before .before .before .before .before .before .before .put-be2 .ensures) (c .before .before .before .before .before .put-be3 .ensures) (c .before .put-be4 .ensures)
+returns c =
+    let args = c .before .before .before .before .before .before .before .before .before .before .before .before .before .before .before .before .args in
+    let put-be = c .before .before .before .before .before .before .before .before .before .before .before .before .before .put-be in
+    let put-be2 = c .before .before .before .before .before .before .before .before .before .put-be2 in
+    let put-be3 = c .before .before .before .before .before .put-be3 in
+    reversed-stored (args .q) (put-be .ensures) (put-be2 .ensures) (put-be3 .ensures) (c .before .put-be4 .ensures)
 
 pub reversed-spec : {M : Type 1} → statement M
 reversed-spec =

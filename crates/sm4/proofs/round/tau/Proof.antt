@@ -35,7 +35,11 @@ add-result-3 : tie.Need-add-result-3
 add-result-3 c = search needs
 
 returns : tie.Need-returns
-returns c = tau-sum (c .before .before .before .before .before .args .x) (omega arith) (c .before .before .before .substitute .ensures .0) (c .before .before .substitute2 .ensures .0) (c .before .substitute3 .ensures .0) (c .substitute4 .ensures .0)
+returns c =
+    let args = c .before .before .before .before .before .args in
+    let substitute = c .before .before .before .substitute in
+    let substitute2 = c .before .before .substitute2 in
+    tau-sum (args .x) (omega arith) (substitute .ensures .0) (substitute2 .ensures .0) (c .before .substitute3 .ensures .0) (c .substitute4 .ensures .0)
 
 pub tau-spec : {M : Type 1} → statement M
 tau-spec =

@@ -28,7 +28,11 @@ keys-from-requires : tie.Need-keys-from-requires
 keys-from-requires c κs = search needs
 
 returns-2 : tie.Need-returns-2
-returns-2 c = keys-done (c .before .before .before .before .before .before .before .before .before .args .key .now) (c .before .before .before .before .before .before .before .if1 .left) (c .before .before .words-of .ensures) (c .before .masked .ensures) (c .keys-from .ensures)
+returns-2 c =
+    let args = c .before .before .before .before .before .before .before .before .before .args in
+    let if1 = c .before .before .before .before .before .before .before .if1 in
+    let words-of = c .before .before .words-of in
+    keys-done (args .key .now) (if1 .left) (words-of .ensures) (c .before .masked .ensures) (c .keys-from .ensures)
 
 pub round-keys-spec : {M : Type 1} → statement M
 round-keys-spec =

@@ -61,7 +61,15 @@ round-requires-4 : tie.Need-round-requires-4
 round-requires-4 c κs = search needs
 
 returns : tie.Need-returns
-returns c = four-sides (c .before .before .before .before .before .before .before .before .before .before .before .before .before .before .before .before .args .ck .now) (c .before .before .before .before .before .before .before .before .before .before .before .before .before .before .before .before .args .i) (c .before .before .before .before .before .before .before .before .before .before .before .before .before .before .before .before .args .s) (c .before .before .before .before .before .before .before .before .before .before .key-round .ensures) (c .before .before .before .before .before .before .before .before .before .round .ensures) (c .before .before .before .before .before .before .before .key-round2 .ensures) (c .before .before .before .before .before .before .round2 .ensures) (c .before .before .before .before .key-round3 .ensures) (c .before .before .before .round3 .ensures) (c .before .key-round4 .ensures) (c .round4 .ensures)
+returns c =
+    let args = c .before .before .before .before .before .before .before .before .before .before .before .before .before .before .before .before .args in
+    let key-round = c .before .before .before .before .before .before .before .before .before .before .key-round in
+    let round = c .before .before .before .before .before .before .before .before .before .round in
+    let key-round2 = c .before .before .before .before .before .before .before .key-round2 in
+    let round2 = c .before .before .before .before .before .before .round2 in
+    let key-round3 = c .before .before .before .before .key-round3 in
+    let round3 = c .before .before .before .round3 in
+    four-sides (args .ck .now) (args .i) (args .s) (key-round .ensures) (round .ensures) (key-round2 .ensures) (round2 .ensures) (key-round3 .ensures) (round3 .ensures) (c .before .key-round4 .ensures) (c .round4 .ensures)
 
 pub four-sides-spec : {M : Type 1} → statement M
 four-sides-spec =

@@ -23,7 +23,12 @@ pick-requires-3 c κs = search needs
 
 returns : tie.Need-returns
 unfolding digitValue
-returns c = rw (c .pick3 .ensures, c .before .minus3 .ensures, c .before .before .pick2 .ensures, c .before .before .before .minus2 .ensures, c .before .before .before .before .pick .ensures, c .before .before .before .before .before .minus .ensures)
+returns c =
+    let minus = c .before .before .before .before .before .minus in
+    let pick = c .before .before .before .before .pick in
+    let minus2 = c .before .before .before .minus2 in
+    let pick2 = c .before .before .pick2 in
+    rw (c .pick3 .ensures, c .before .minus3 .ensures, pick2 .ensures, minus2 .ensures, pick .ensures, minus .ensures)
 
 pub digit-spec : {M : Type 1} → statement M
 digit-spec =

@@ -29,13 +29,27 @@ wrong-digits-requires-3 : tie.Need-wrong-digits-requires-3
 wrong-digits-requires-3 c κs = search needs
 
 returns-3 : tie.Need-returns-3
-returns-3 c = c .wrong-digits3 .ensures ∙ hex-wrong (c .before .before .before .before .before .before .before .before .args .s .now) (c .before .before .before .before .before .before .if1 .left) (c .before .before .before .before .before .if2 .left) (c .before .before .before .before .padded .ensures) (c .before .before .before .values-of .ensures) (c .before .before .all-hex .ensures) (c .before .if3 .taken)
+returns-3 c =
+    let args = c .before .before .before .before .before .before .before .before .args in
+    let if1 = c .before .before .before .before .before .before .if1 in
+    let if2 = c .before .before .before .before .before .if2 in
+    let padded = c .before .before .before .before .padded in
+    let values-of = c .before .before .before .values-of in
+    let all-hex = c .before .before .all-hex in
+    c .wrong-digits3 .ensures ∙ hex-wrong (args .s .now) (if1 .left) (if2 .left) (padded .ensures) (values-of .ensures) (all-hex .ensures) (c .before .if3 .taken)
 
 pairs-of-requires : tie.Need-pairs-of-requires
 pairs-of-requires c κs = search needs
 
 returns-4 : tie.Need-returns-4
-returns-4 c = hex-done (c .before .before .before .before .before .before .before .before .args .s .now) (c .before .before .before .before .before .before .if1 .left) (c .before .before .before .before .before .if2 .left) (c .before .before .before .before .padded .ensures) (c .before .before .before .values-of .ensures) (c .before .before .all-hex .ensures) (c .before .if3 .left) (c .pairs-of .ensures)
+returns-4 c =
+    let args = c .before .before .before .before .before .before .before .before .args in
+    let if1 = c .before .before .before .before .before .before .if1 in
+    let if2 = c .before .before .before .before .before .if2 in
+    let padded = c .before .before .before .before .padded in
+    let values-of = c .before .before .before .values-of in
+    let all-hex = c .before .before .all-hex in
+    hex-done (args .s .now) (if1 .left) (if2 .left) (padded .ensures) (values-of .ensures) (all-hex .ensures) (c .before .if3 .left) (c .pairs-of .ensures)
 
 pub hex-spec : {M : Type 1} → statement M
 hex-spec =

@@ -24,25 +24,59 @@ is-decimal-requires : tie.Need-is-decimal-requires Inv-loop μ-loop
 is-decimal-requires c κs = search needs
 
 returns : tie.Need-returns Inv-loop μ-loop
-returns c = digits-wrong (c .before .before .before .before .before .before .args .s .now) (c .before .before .before .before .loop .i) (c .before .before .before .before .loop .value) (c .before .before .before .loop-test .taken) (c .before .is-decimal .ensures) (c .if1 .taken) ∙ ap bounded (c .before .before .before .before .loop .inv .rest)
+returns c =
+    let args = c .before .before .before .before .before .before .args in
+    let loop = c .before .before .before .before .loop in
+    let loop-test = c .before .before .before .loop-test in
+    digits-wrong (args .s .now) (loop .i) (loop .value) (loop-test .taken) (c .before .is-decimal .ensures) (c .if1 .taken) ∙ ap bounded (loop .inv .rest)
 
 sub-d : tie.Need-sub-d Inv-loop μ-loop
-sub-d c = digit-read (c .before .before .before .before .before .before .args .s .now) (c .before .before .before .before .loop .i) (c .before .before .before .before .loop .value) (c .before .before .before .loop-test .taken) (c .before .is-decimal .ensures) (c .if1 .left) .1 .0
+sub-d c =
+    let args = c .before .before .before .before .before .before .args in
+    let loop = c .before .before .before .before .loop in
+    let loop-test = c .before .before .before .loop-test in
+    digit-read (args .s .now) (loop .i) (loop .value) (loop-test .taken) (c .before .is-decimal .ensures) (c .if1 .left) .1 .0
 
 cast-d : tie.Need-cast-d Inv-loop μ-loop
-cast-d c = omega (arith, digit-read (c .before .before .before .before .before .before .args .s .now) (c .before .before .before .before .loop .i) (c .before .before .before .before .loop .value) (c .before .before .before .loop-test .taken) (c .before .is-decimal .ensures) (c .if1 .left) .1 .1)
+cast-d c =
+    let args = c .before .before .before .before .before .before .args in
+    let loop = c .before .before .before .before .loop in
+    let loop-test = c .before .before .before .loop-test in
+    omega (arith, digit-read (args .s .now) (loop .i) (loop .value) (loop-test .taken) (c .before .is-decimal .ensures) (c .if1 .left) .1 .1)
 
 has-room-requires : tie.Need-has-room-requires Inv-loop μ-loop
-has-room-requires c κs = omega (arith, digit-read (c .before .before .before .before .before .before .args .s .now) (c .before .before .before .before .loop .i) (c .before .before .before .before .loop .value) (c .before .before .before .loop-test .taken) (c .before .is-decimal .ensures) (c .if1 .left) .1 .1)
+has-room-requires c κs =
+    let args = c .before .before .before .before .before .before .args in
+    let loop = c .before .before .before .before .loop in
+    let loop-test = c .before .before .before .loop-test in
+    omega (arith, digit-read (args .s .now) (loop .i) (loop .value) (loop-test .taken) (c .before .is-decimal .ensures) (c .if1 .left) .1 .1)
 
 returns-2 : tie.Need-returns-2 Inv-loop μ-loop
-returns-2 c = digits-large (c .before .before .before .before .before .before .before .before .args .s .now) (c .before .before .before .before .before .before .loop .i) (c .before .before .before .before .before .before .loop .value) (c .before .before .before .before .before .loop-test .taken) (c .before .before .before .is-decimal .ensures) (c .before .before .if1 .left) (c .before .has-room .ensures) (c .if2 .taken) ∙ ap bounded (c .before .before .before .before .before .before .loop .inv .rest)
+returns-2 c =
+    let args = c .before .before .before .before .before .before .before .before .args in
+    let loop = c .before .before .before .before .before .before .loop in
+    let loop-test = c .before .before .before .before .before .loop-test in
+    let is-decimal = c .before .before .before .is-decimal in
+    let if1 = c .before .before .if1 in
+    digits-large (args .s .now) (loop .i) (loop .value) (loop-test .taken) (is-decimal .ensures) (if1 .left) (c .before .has-room .ensures) (c .if2 .taken) ∙ ap bounded (loop .inv .rest)
 
 mul-value : tie.Need-mul-value Inv-loop μ-loop
-mul-value c = omega (arith, digits-small (c .before .before .before .before .before .before .before .before .args .s .now) (c .before .before .before .before .before .before .loop .i) (c .before .before .before .before .before .before .loop .value) (c .before .before .before .before .before .loop-test .taken) (c .before .before .before .is-decimal .ensures) (c .before .before .if1 .left) (c .before .has-room .ensures) (c .if2 .left))
+mul-value c =
+    let args = c .before .before .before .before .before .before .before .before .args in
+    let loop = c .before .before .before .before .before .before .loop in
+    let loop-test = c .before .before .before .before .before .loop-test in
+    let is-decimal = c .before .before .before .is-decimal in
+    let if1 = c .before .before .if1 in
+    omega (arith, digits-small (args .s .now) (loop .i) (loop .value) (loop-test .taken) (is-decimal .ensures) (if1 .left) (c .before .has-room .ensures) (c .if2 .left))
 
 add-value : tie.Need-add-value Inv-loop μ-loop
-add-value c = omega (arith, digits-small (c .before .before .before .before .before .before .before .before .args .s .now) (c .before .before .before .before .before .before .loop .i) (c .before .before .before .before .before .before .loop .value) (c .before .before .before .before .before .loop-test .taken) (c .before .before .before .is-decimal .ensures) (c .before .before .if1 .left) (c .before .has-room .ensures) (c .if2 .left))
+add-value c =
+    let args = c .before .before .before .before .before .before .before .before .args in
+    let loop = c .before .before .before .before .before .before .loop in
+    let loop-test = c .before .before .before .before .before .loop-test in
+    let is-decimal = c .before .before .before .is-decimal in
+    let if1 = c .before .before .if1 in
+    omega (arith, digits-small (args .s .now) (loop .i) (loop .value) (loop-test .taken) (is-decimal .ensures) (if1 .left) (c .before .has-room .ensures) (c .if2 .left))
 
 add-i : tie.Need-add-i Inv-loop μ-loop
 add-i c = search needs
@@ -51,7 +85,13 @@ loop-less : tie.Need-loop-less Inv-loop μ-loop
 loop-less c = search needs
 
 loop-again : tie.Need-loop-again Inv-loop μ-loop
-loop-again c = read-more (c .before .before .before .before .before .before .before .before .args .s .now) (c .before .before .before .before .before .before .loop .i) (c .before .before .before .before .before .before .loop .value) (c .before .before .before .before .before .loop-test .taken) (c .before .before .before .is-decimal .ensures) (c .before .before .if1 .left) (c .before .has-room .ensures) (c .before .before .before .before .before .before .loop .inv) (c .if2 .left)
+loop-again c =
+    let args = c .before .before .before .before .before .before .before .before .args in
+    let loop = c .before .before .before .before .before .before .loop in
+    let loop-test = c .before .before .before .before .before .loop-test in
+    let is-decimal = c .before .before .before .is-decimal in
+    let if1 = c .before .before .if1 in
+    read-more (args .s .now) (loop .i) (loop .value) (loop-test .taken) (is-decimal .ensures) (if1 .left) (c .before .has-room .ensures) (loop .inv) (c .if2 .left)
 
 returns-3 : tie.Need-returns-3 Inv-loop μ-loop
 returns-3 c = let l = c .before .loop in digits-end (c .before .before .before .args .s .now) (l .i) (l .value) (c .loop-test .left) (l .inv .fits) ∙ ap bounded (l .inv .rest)

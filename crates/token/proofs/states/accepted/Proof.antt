@@ -13,7 +13,10 @@ moved-requires : tie.Need-moved-requires
 moved-requires c κs = search needs
 
 returns : tie.Need-returns
-returns c = accepted-by (c .before .before .before .before .args .call) (c .before .before .before .before .args .row) (c .before .before .before .before .args .clock .0) (c .before .before .before .before .args .a .0) (c .before .before .track-after .ensures) (c .before .changed .ensures) (c .moved .ensures)
+returns c =
+    let args = c .before .before .before .before .args in
+    let track-after = c .before .before .track-after in
+    accepted-by (args .call) (args .row) (args .clock .0) (args .a .0) (track-after .ensures) (c .before .changed .ensures) (c .moved .ensures)
 
 pub accepted-spec : {M : Type 1} → statement M
 accepted-spec = tie.close (tie.spec track-after-requires changed-requires moved-requires returns)

@@ -13,13 +13,21 @@ changed-requires : tie.Need-changed-requires
 changed-requires c κs = search needs
 
 returns : tie.Need-returns
-returns c = failed-locks (c .before .before .before .before .before .before .before .before .args .call) (c .before .before .before .before .before .before .before .before .args .row) (c .before .before .before .before .before .before .before .before .args .clock .0) (c .before .before .before .before .errors-after .ensures) (c .before .before .before .is-login .ensures) (c .before .if1 .taken) (c .changed .ensures)
+returns c =
+    let args = c .before .before .before .before .before .before .before .before .args in
+    let errors-after = c .before .before .before .before .errors-after in
+    let is-login = c .before .before .before .is-login in
+    failed-locks (args .call) (args .row) (args .clock .0) (errors-after .ensures) (is-login .ensures) (c .before .if1 .taken) (c .changed .ensures)
 
 changed-requires-2 : tie.Need-changed-requires-2
 changed-requires-2 c κs = search needs
 
 returns-2 : tie.Need-returns-2
-returns-2 c = failed-stays (c .before .before .before .before .before .before .before .before .args .call) (c .before .before .before .before .before .before .before .before .args .row) (c .before .before .before .before .before .before .before .before .args .clock .0) (c .before .before .before .before .errors-after .ensures) (c .before .before .before .is-login .ensures) (c .before .if1 .left) (c .changed2 .ensures)
+returns-2 c =
+    let args = c .before .before .before .before .before .before .before .before .args in
+    let errors-after = c .before .before .before .before .errors-after in
+    let is-login = c .before .before .before .is-login in
+    failed-stays (args .call) (args .row) (args .clock .0) (errors-after .ensures) (is-login .ensures) (c .before .if1 .left) (c .changed2 .ensures)
 
 pub failed-spec : {M : Type 1} → statement M
 failed-spec =

@@ -13,7 +13,10 @@ changed-requires : tie.Need-changed-requires
 changed-requires c κs = search needs
 
 returns : tie.Need-returns
-returns c = moved-by (c .before .before .before .before .before .args .call) (c .before .before .before .before .before .args .row) (c .before .before .state-after .ensures) (c .before .locked-after .ensures) (c .changed .ensures)
+returns c =
+    let args = c .before .before .before .before .before .args in
+    let state-after = c .before .before .state-after in
+    moved-by (args .call) (args .row) (state-after .ensures) (c .before .locked-after .ensures) (c .changed .ensures)
 
 pub moved-spec : {M : Type 1} → statement M
 moved-spec =

@@ -14,13 +14,28 @@ add-t6 : tie.Need-add-t6
 add-t6 c = search needs
 
 sub-t7 : tie.Need-sub-t7
-sub-t7 c = offset-above (c .before .before .before .before .before .args .track) (c .before .before .before .before .before .args .clock .0) (c .before .before .before .before .before .args .a .0) (c .before .before .before .before .before .pre .1) (c .before .before .before .if1 .left) (c .before .before .step-at .ensures)
+sub-t7 c =
+    let args = c .before .before .before .before .before .args in
+    let pre = c .before .before .before .before .before .pre in
+    let if1 = c .before .before .before .if1 in
+    let step-at = c .before .before .step-at in
+    offset-above (args .track) (args .clock .0) (args .a .0) (pre .1) (if1 .left) (step-at .ensures)
 
 cast-t8 : tie.Need-cast-t8
-cast-t8 c = omega (arith, offset-fits (c .before .before .before .before .before .args .track) (c .before .before .before .before .before .args .clock .0) (c .before .before .before .before .before .args .a .0) (c .before .before .before .before .before .pre .1) (c .before .before .before .if1 .left) (c .before .before .step-at .ensures))
+cast-t8 c =
+    let args = c .before .before .before .before .before .args in
+    let pre = c .before .before .before .before .before .pre in
+    let if1 = c .before .before .before .if1 in
+    let step-at = c .before .before .step-at in
+    omega (arith, offset-fits (args .track) (args .clock .0) (args .a .0) (pre .1) (if1 .left) (step-at .ensures))
 
 returns-2 : tie.Need-returns-2
-returns-2 c = offset-time (c .before .before .before .before .before .args .track) (c .before .before .before .before .before .args .clock .0) (c .before .before .before .before .before .args .a .0) (c .before .before .before .before .before .pre .1) (c .before .before .before .if1 .left) (c .before .before .step-at .ensures)
+returns-2 c =
+    let args = c .before .before .before .before .before .args in
+    let pre = c .before .before .before .before .before .pre in
+    let if1 = c .before .before .before .if1 in
+    let step-at = c .before .before .step-at in
+    offset-time (args .track) (args .clock .0) (args .a .0) (pre .1) (if1 .left) (step-at .ensures)
 
 pub offset-after-spec : {M : Type 1} → statement M
 offset-after-spec = tie.close (tie.spec returns step-at-requires add-t6 sub-t7 cast-t8 returns-2)

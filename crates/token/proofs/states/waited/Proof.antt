@@ -10,7 +10,10 @@ changed-requires : tie.Need-changed-requires
 changed-requires c κs = search needs
 
 returns : tie.Need-returns
-returns c = waited-out (c .before .before .before .before .before .args .row) (c .before .before .before .before .before .args .clock .0) (c .before .before .wait-over .ensures) (c .before .if1 .taken) (c .changed .ensures)
+returns c =
+    let args = c .before .before .before .before .before .args in
+    let wait-over = c .before .before .wait-over in
+    waited-out (args .row) (args .clock .0) (wait-over .ensures) (c .before .if1 .taken) (c .changed .ensures)
 
 returns-2 : tie.Need-returns-2
 returns-2 c = waited-on (c .before .before .before .before .args .row) (c .before .before .before .before .args .clock .0) (c .before .wait-over .ensures) (c .if1 .left)

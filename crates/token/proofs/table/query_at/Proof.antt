@@ -13,7 +13,10 @@ enum-told : tie.Need-enum-told
 enum-told c = search needs
 
 returns : tie.Need-returns
-returns c = queried-damaged (c .before .before .before .before .args .table .now) (c .before .before .before .before .args .at) (c .before .before .before .before .args .clock .0) (damaged-read (c .before .before .before .before .args .table .now) (c .before .before .before .before .args .at) (c .before .before .read-row .ensures) (c .enum-told .given .1))
+returns c =
+    let args = c .before .before .before .before .args in
+    let read-row = c .before .before .read-row in
+    queried-damaged (args .table .now) (args .at) (args .clock .0) (damaged-read (args .table .now) (args .at) (read-row .ensures) (c .enum-told .given .1))
 
 query-requires : tie.Need-query-requires
 query-requires c κs = search needs

@@ -19,7 +19,10 @@ same-length : tie.Need-same-length
 same-length c = search needs
 
 returns : tie.Need-returns
-returns c = served-damaged (c .before .before .before .before .before .before .before .before .args .table .now) (c .before .before .before .before .before .before .before .before .args .at) (c .before .before .before .before .before .before .before .before .args .call) (c .before .before .before .before .before .before .before .before .args .clock .0) (c .before .before .before .before .before .before .before .before .args .challenge .now) (c .before .before .before .before .before .before .before .before .args .presented .now) (c .before .before .before .before .before .before .before .before .args .following .now) (damaged-read (c .before .before .before .before .before .before .before .before .args .table .now) (c .before .before .before .before .before .before .before .before .args .at) (c .before .before .read-row .ensures) (c .enum-told .given .1))
+returns c =
+    let args = c .before .before .before .before .before .before .before .before .args in
+    let read-row = c .before .before .read-row in
+    served-damaged (args .table .now) (args .at) (args .call) (args .clock .0) (args .challenge .now) (args .presented .now) (args .following .now) (damaged-read (args .table .now) (args .at) (read-row .ensures) (c .enum-told .given .1))
 
 add-start : tie.Need-add-start
 add-start c = search needs
@@ -49,7 +52,10 @@ wipes-requires : tie.Need-wipes-requires
 wipes-requires c κs = search needs
 
 wipe-key-requires : tie.Need-wipe-key-requires
-wipe-key-requires c κs = rw (c .before .before .before .before .before .store-row .ensures, length-store) (c .before .before .before .before .before .before .before .before .before .before .before .before .before .before .before .before .before .before .before .before .before .pre .0)
+wipe-key-requires c κs =
+    let pre = c .before .before .before .before .before .before .before .before .before .before .before .before .before .before .before .before .before .before .before .before .before .pre in
+    let store-row = c .before .before .before .before .before .store-row in
+    rw (store-row .ensures, length-store) (pre .0)
 
 same-length-2 : tie.Need-same-length-2
 same-length-2 c = search needs

@@ -18,11 +18,21 @@ add-if2 c = search needs
 
 returns : tie.Need-returns
 unfolding tooFar
-returns c = rw (eq-eqb (c .before .before .before .before .before .before .args .track .rule .kind) 0 (c .before .before .before .before .if1 .taken), ← c .before .before .before .step-at .ensures, ← c .before .before .less .ensures, ← c .before .less2 .ensures, lt-ltb _ _ (c .if2 .taken))
+returns c =
+    let args = c .before .before .before .before .before .before .args in
+    let if1 = c .before .before .before .before .if1 in
+    let step-at = c .before .before .before .step-at in
+    let less = c .before .before .less in
+    rw (eq-eqb (args .track .rule .kind) 0 (if1 .taken), ← step-at .ensures, ← less .ensures, ← c .before .less2 .ensures, lt-ltb _ _ (c .if2 .taken))
 
 returns-2 : tie.Need-returns-2
 unfolding tooFar
-returns-2 c = rw (eq-eqb (c .before .before .before .before .before .before .args .track .rule .kind) 0 (c .before .before .before .before .if1 .taken), ← c .before .before .before .step-at .ensures, ← c .before .before .less .ensures, ← c .before .less2 .ensures, le-ltb _ _ (c .if2 .left))
+returns-2 c =
+    let args = c .before .before .before .before .before .before .args in
+    let if1 = c .before .before .before .before .if1 in
+    let step-at = c .before .before .before .step-at in
+    let less = c .before .before .less in
+    rw (eq-eqb (args .track .rule .kind) 0 (if1 .taken), ← step-at .ensures, ← less .ensures, ← c .before .less2 .ensures, le-ltb _ _ (c .if2 .left))
 
 returns-3 : tie.Need-returns-3
 unfolding tooFar

@@ -9,10 +9,15 @@ counts-right-requires : tie.Need-counts-right-requires
 counts-right-requires c κs = search needs
 
 returns : tie.Need-returns
-returns c = check-counted (c .before .before .before .before .before .before .args .track) (c .before .before .before .before .before .before .args .clock .0) (c .before .before .before .before .before .before .args .size) (c .before .before .before .before .before .before .args .key .now) (c .before .before .before .before .before .before .args .challenge .now) (c .before .before .before .before .before .before .args .presented .now) (c .before .before .before .before .before .before .args .following .now) (sym (c .before .counts-right .ensures) ∙ not-true _ (c .if1 .taken))
+returns c =
+    let args = c .before .before .before .before .before .before .args in
+    check-counted (args .track) (args .clock .0) (args .size) (args .key .now) (args .challenge .now) (args .presented .now) (args .following .now) (sym (c .before .counts-right .ensures) ∙ not-true _ (c .if1 .taken))
 
 searched-in-lanes-requires : tie.Need-searched-in-lanes-requires
-searched-in-lanes-requires c κs = (c .before .before .before .before .before .before .before .pre .0, (c .before .before .before .before .before .before .before .pre .1, (c .if2 .taken, sym (c .before .before .counts-right .ensures) ∙ not-false _ (c .before .if1 .left))))
+searched-in-lanes-requires c κs =
+    let pre = c .before .before .before .before .before .before .before .pre in
+    let counts-right = c .before .before .counts-right in
+    (pre .0, (pre .1, (c .if2 .taken, sym (counts-right .ensures) ∙ not-false _ (c .before .if1 .left))))
 
 returns-2 : tie.Need-returns-2
 returns-2 c = search needs

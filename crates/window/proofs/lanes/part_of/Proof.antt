@@ -41,7 +41,10 @@ add-t21 : tie.Need-add-t21
 add-t21 c = search needs
 
 returns : tie.Need-returns
-returns c = part-is (c .before .before .before .before .before .before .args .goal) (c .before .before .before .before .before .before .args .ahead) (c .before .before .before .before .before .before .args .before) (c .before .before .before .before .before .before .args .cuts .now) (c .before .before .before .before .before .before .args .s) (c .before .before .before .before .before .before .args .end) (c .before .before .before .prior-of .ensures) (c .first-among .ensures) refl
+returns c =
+    let args = c .before .before .before .before .before .before .args in
+    let prior-of = c .before .before .before .prior-of in
+    part-is (args .goal) (args .ahead) (args .before) (args .cuts .now) (args .s) (args .end) (prior-of .ensures) (c .first-among .ensures) refl
 
 pub part-of-spec : {M : Type 1} → statement M
 part-of-spec =

@@ -9,7 +9,10 @@ ahead-by-requires : tie.Need-ahead-by-requires
 ahead-by-requires c κs = search needs
 
 search-on-requires : tie.Need-search-on-requires
-search-on-requires c κs = (c .before .before .before .pre .0, (c .before .before .before .pre .1 .0, (c .before .before .before .pre .1 .1 .0, (c .ahead-by .ensures .1, (omega (arith, c .ahead-by .ensures .0, c .before .before .before .pre .1 .1 .1 .0), (ahead-prior (c .before .before .before .args .goal) (cutAt (c .before .before .before .args .rule) (c .before .before .before .args .key .now)) 0 (c .before .before .before .args .first) (c .ahead-by .ensures .0), c .before .before .before .pre .1 .1 .1 .1))))))
+search-on-requires c κs =
+    let pre = c .before .before .before .pre in
+    let args = c .before .before .before .args in
+    (pre .0, (pre .1 .0, (pre .1 .1 .0, (c .ahead-by .ensures .1, (omega (arith, c .ahead-by .ensures .0, pre .1 .1 .1 .0), (ahead-prior (args .goal) (cutAt (args .rule) (args .key .now)) 0 (args .first) (c .ahead-by .ensures .0), pre .1 .1 .1 .1))))))
 
 returns : tie.Need-returns
 returns c = search needs

@@ -21,7 +21,11 @@ time-range-requires c κs =
 
 returns : tie.Need-returns
 unfolding firstStep endStep
-returns c = rw (eq-eqb (c .before .before .before .before .before .before .args .track .rule .kind) 0 (c .before .before .before .before .if1 .taken), ← c .before .before .before .step-at .ensures, ← c .before .time-width .ensures .0) (c .time-range .ensures)
+returns c =
+    let args = c .before .before .before .before .before .before .args in
+    let if1 = c .before .before .before .before .if1 in
+    let step-at = c .before .before .before .step-at in
+    rw (eq-eqb (args .track .rule .kind) 0 (if1 .taken), ← step-at .ensures, ← c .before .time-width .ensures .0) (c .time-range .ensures)
 
 event-width-requires : tie.Need-event-width-requires
 event-width-requires c κs = search needs

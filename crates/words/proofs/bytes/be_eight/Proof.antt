@@ -12,7 +12,10 @@ swapped-requires : tie.Need-swapped-requires
 swapped-requires c κs = search needs
 
 returns : tie.Need-returns
-returns c = c .swapped .ensures ∙ ap (swapBytes 8) (c .before .le-eight .ensures) ∙ swap-le 8 (c .before .before .before .args .s .now) (c .before .before .before .args .at) (λ i. c .before .before .shared-slice-known .given i .fits)
+returns c =
+    let args = c .before .before .before .args in
+    let shared-slice-known = c .before .before .shared-slice-known in
+    c .swapped .ensures ∙ ap (swapBytes 8) (c .before .le-eight .ensures) ∙ swap-le 8 (args .s .now) (args .at) (λ i. shared-slice-known .given i .fits)
 
 pub be-eight-spec : {M : Type 1} → statement M
 be-eight-spec = tie.close (tie.spec le-eight-requires swapped-requires returns)

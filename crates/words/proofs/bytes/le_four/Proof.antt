@@ -43,7 +43,11 @@ add-result-3 : tie.Need-add-result-3
 add-result-3 c = search needs
 
 returns : tie.Need-returns
-returns c = (four-read (c .before .before .before .before .before .args .s .now) (c .before .before .before .before .before .args .at) (c .before .before .before .byte-at .ensures .0) (c .before .before .byte-at2 .ensures .0) (c .before .byte-at3 .ensures .0) (c .byte-at4 .ensures .0), search needs)
+returns c =
+    let args = c .before .before .before .before .before .args in
+    let byte-at = c .before .before .before .byte-at in
+    let byte-at2 = c .before .before .byte-at2 in
+    (four-read (args .s .now) (args .at) (byte-at .ensures .0) (byte-at2 .ensures .0) (c .before .byte-at3 .ensures .0) (c .byte-at4 .ensures .0), search needs)
 
 pub le-four-spec : {M : Type 1} → statement M
 le-four-spec =

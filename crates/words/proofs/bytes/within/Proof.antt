@@ -30,7 +30,11 @@ loop-less : tie.Need-loop-less Inv-loop μ-loop
 loop-less c = search needs
 
 loop-again : tie.Need-loop-again Inv-loop μ-loop
-loop-again c = (search needs, sym (within-more (c .before .before .before .before .args .low) (c .before .before .before .before .args .high) (c .before .before .before .before .args .s .now) (c .before .before .before .loop .i) (c .before .before .before .loop .clean) (c .before .before .loop-test .taken)) ∙ c .before .before .before .loop .inv .1)
+loop-again c =
+    let args = c .before .before .before .before .args in
+    let loop = c .before .before .before .loop in
+    let loop-test = c .before .before .loop-test in
+    (search needs, sym (within-more (args .low) (args .high) (args .s .now) (loop .i) (loop .clean) (loop-test .taken)) ∙ loop .inv .1)
 
 returns : tie.Need-returns Inv-loop μ-loop
 returns c = sym (within-end (c .before .before .args .low) (c .before .before .args .high) (c .before .before .args .s .now) (c .before .loop .i) (c .before .loop .clean) (c .loop-test .left)) ∙ c .before .loop .inv .1
