@@ -16,7 +16,7 @@ ghost use Rattle.otp.specs.StepCuts.{timeAt, countAt, stepId, hashedCut,
 ghost use Rattle.otp.specs.StepLaws.{Awaits};
 
 // A time token's step is its time factor T, an event token's its count C.
-fn time_at(timed: bool, s: u64) -> Factor
+pub fn time_at(timed: bool, s: u64) -> Factor
     ensures { λ r. ⌜ r ≡ timeAt timed s ⌝ }
 {
     if timed {
@@ -26,7 +26,7 @@ fn time_at(timed: bool, s: u64) -> Factor
     }
 }
 
-fn count_at(timed: bool, s: u64) -> Factor
+pub fn count_at(timed: bool, s: u64) -> Factor
     ensures { λ r. ⌜ r ≡ countAt timed s ⌝ }
 {
     if timed {

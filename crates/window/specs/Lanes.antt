@@ -10,8 +10,8 @@ use Rattle.otp.specs.Password.{algorithmSm3, keyed, filled, cut}
 use Rattle.otp.specs.ChainLaws.{prepared}
 use Rattle.otp.specs.StepCuts.{stepId, cutsFrom}
 use Rattle.window.specs.declared.Rule.{Rule}
-use Rattle.window.specs.declared.lanes.Goal.{Goal}
-use Rattle.window.specs.declared.lanes.Part.{Part}
+use Rattle.window.specs.declared.goal.Goal.{Goal}
+use Rattle.window.specs.declared.parts.Part.{Part}
 use Rattle.window.specs.Window.{timeToken}
 use Rattle.window.specs.CheckLaws.{sweep}
 use Rattle.window.specs.SearchLaws.{foundOf}

@@ -15,7 +15,7 @@ use Rattle.window.specs.declared.Track.{Track}
 use Rattle.window.specs.declared.Outcome.{Outcome}
 use Rattle.window.specs.declared.search.Found.{Found}
 use Rattle.window.specs.declared.search.Found.the-variants.{At, Nowhere}
-use Rattle.window.specs.declared.lanes.Goal.{Goal}
+use Rattle.window.specs.declared.goal.Goal.{Goal}
 use Rattle.window.specs.Window.{Sound}
 use Rattle.window.specs.WindowLaws.{firstStep, endStep}
 use Rattle.window.specs.Check.{accepting}

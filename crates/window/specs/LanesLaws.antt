@@ -25,8 +25,8 @@ use Rattle.window.specs.declared.Rule.{Rule}
 use Rattle.window.specs.declared.Step.{Step}
 use Rattle.window.specs.declared.search.Found.{Found}
 use Rattle.window.specs.declared.search.Found.the-variants.{At, Nowhere}
-use Rattle.window.specs.declared.lanes.Goal.{Goal}
-use Rattle.window.specs.declared.lanes.Part.{Part}
+use Rattle.window.specs.declared.goal.Goal.{Goal}
+use Rattle.window.specs.declared.parts.Part.{Part}
 use Rattle.window.specs.Window.{timeToken}
 use Rattle.window.specs.Check.{orElse}
 use Rattle.window.specs.CheckLaws.{sweep, order}

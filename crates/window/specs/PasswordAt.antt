@@ -1,21 +1,21 @@
 -- The password of a step (document 01, Part 3), over the password rule.
 use Prim.Native.Nat.{ℕ}
-use mathlib.Core.Bool.{Bool, cond}
+use mathlib.Core.Bool.{Bool}
 use mathlib.Core.List.{List}
 use lib.Dec.{eqb}
 use Rattle.words.specs.Lists.{sameBytes}
 use Rattle.otp.specs.declared.Factor.{Factor}
-use Rattle.otp.specs.declared.Factor.the-variants.{Absent, Present}
 use Rattle.otp.specs.Password.{passwordOf}
+use Rattle.otp.specs.StepCuts.{timeAt, countAt}
 use Rattle.window.specs.declared.Rule.{Rule}
 use Rattle.window.specs.Window.{timeToken}
 
 -- step s has T = s for a time token, C = s for an event token
 abbrev pub timeOf : ℕ → ℕ → Factor
-timeOf kind s = cond (eqb kind timeToken) (Present s) Absent
+timeOf kind s = timeAt (eqb kind timeToken) s
 
 abbrev pub countOf : ℕ → ℕ → Factor
-countOf kind s = cond (eqb kind timeToken) Absent (Present s)
+countOf kind s = countAt (eqb kind timeToken) s
 
 unfoldable pub passwordAt : Rule → List ℕ → List ℕ → ℕ → List ℕ
 passwordAt rule key challenge s = passwordOf (rule .algorithm) key (timeOf (rule .kind) s) (countOf (rule .kind) s) challenge (rule .digits)

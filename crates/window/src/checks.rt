@@ -5,7 +5,7 @@ use crate::Size;
 use crate::Step;
 use crate::TIME_TOKEN;
 use crate::Track;
-use crate::lanes::goal_of;
+use crate::goal::goal_of;
 use crate::lanes::search_again;
 use crate::lanes::search_first;
 use crate::matching::ahead_of;

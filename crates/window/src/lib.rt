@@ -1,8 +1,10 @@
 // Steps and windows (document 01, Part 3).
 mod arguments;
 mod checks;
+mod goal;
 mod lanes;
 mod matching;
+mod parts;
 mod range;
 mod search;
 

@@ -1,35 +1,16 @@
 // Whether a step has the presented passwords.
 use crate::Rule;
 use crate::TIME_TOKEN;
-use otp::Factor;
 use otp::prepared::password_with;
+use otp::steps::count_at;
+use otp::steps::time_at;
 use words::bytes::same;
 ghost use mathlib.Core.Path.{_≡_};
 ghost use mathlib.Core.Bool.{true};
 ghost use Prim.Native.Nat.{_≤_};
 ghost use Rattle.otp.specs.ChainLaws.{prepared};
-ghost use Rattle.window.specs.PasswordAt.{timeOf, countOf, hasPassword};
+ghost use Rattle.window.specs.PasswordAt.{hasPassword};
 ghost use Rattle.window.specs.PasswordAtLaws.{inRange, StepOk, aheadOf, matchesAt};
-
-fn time_of(kind: u8, s: u64) -> Factor
-    ensures { λ r. ⌜ r ≡ timeOf kind s ⌝ }
-{
-    if kind == TIME_TOKEN {
-        Factor::Present(s)
-    } else {
-        Factor::Absent
-    }
-}
-
-fn count_of(kind: u8, s: u64) -> Factor
-    ensures { λ r. ⌜ r ≡ countOf kind s ⌝ }
-{
-    if kind == TIME_TOKEN {
-        Factor::Absent
-    } else {
-        Factor::Present(s)
-    }
-}
 
 // The passwords are compared to their end, whatever their first digits.
 fn has_password(
@@ -47,8 +28,9 @@ fn has_password(
 {
     let mut out = [0u8; 10];
     let n = rule.digits as usize;
-    let time = time_of(rule.kind, s);
-    let count = count_of(rule.kind, s);
+    let timed = rule.kind == TIME_TOKEN;
+    let time = time_at(timed, s);
+    let count = count_at(timed, s);
     password_with(
         rule.algorithm,
         key,

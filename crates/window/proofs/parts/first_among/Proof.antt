@@ -8,8 +8,8 @@ use mathlib.Core.Path.{_≡_, refl, sym, ap, _∙_}
 use Prim.Native.Nat.{_+_, _-_}
 use native.Mathlib.Omega.{arith}
 use borrow.Author.Needs.{needs}
-use Rattle.window.proofs.lanes.first_among.Statement.{statement}
-use Rattle.window.proofs.lanes.first_among.Tie as tie
+use Rattle.window.proofs.parts.first_among.Statement.{statement}
+use Rattle.window.proofs.parts.first_among.Tie as tie
 
 abbrev Inv-loop : tie.InvT-loop
 Inv-loop goal before cuts s end stop prior₀ i₀ a₀ prior i a = (a ≡ s + i) × ((prior ≡ getD (before ∷ cuts) i 0) × (foundOf (sweep (listTest goal before cuts s) a (stop - a)) ≡ foundOf (sweep (listTest goal before cuts s) s (stop - s))))

@@ -1,7 +1,7 @@
 use Rattle.window.specs.LanesLaws.{goal-single, goal-pair}
 use borrow.Author.Needs.{needs}
-use Rattle.window.proofs.lanes.goal_of.Statement.{statement}
-use Rattle.window.proofs.lanes.goal_of.Tie as tie
+use Rattle.window.proofs.goal.goal_of.Statement.{statement}
+use Rattle.window.proofs.goal.goal_of.Tie as tie
 
 ten-to-requires : tie.Need-ten-to-requires
 ten-to-requires c κs = search needs

@@ -4,8 +4,8 @@ use native.Mathlib.Omega.{arith}
 use Rattle.window.specs.Lanes.{cutAt}
 use Rattle.window.specs.LanesLaws.{one-cut, keyed-part, next-hashed, alone-ahead, first-one, first-hashed, first-three, first-part-is}
 use borrow.Author.Needs.{needs}
-use Rattle.window.proofs.lanes.first_part.Statement.{statement}
-use Rattle.window.proofs.lanes.first_part.Tie as tie
+use Rattle.window.proofs.parts.first_part.Statement.{statement}
+use Rattle.window.proofs.parts.first_part.Tie as tie
 
 ahead-by-requires : tie.Need-ahead-by-requires
 ahead-by-requires c κs = search needs

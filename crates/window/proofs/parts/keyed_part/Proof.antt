@@ -2,8 +2,8 @@ use Rattle.window.specs.LanesLaws.{part-cuts, keyed-three, keyed-five}
 use Rattle.otp.specs.StepCuts.{cutBy}
 use Prim.Native.Nat.{_-_}
 use borrow.Author.Needs.{needs}
-use Rattle.window.proofs.lanes.keyed_part.Statement.{statement}
-use Rattle.window.proofs.lanes.keyed_part.Tie as tie
+use Rattle.window.proofs.parts.keyed_part.Statement.{statement}
+use Rattle.window.proofs.parts.keyed_part.Tie as tie
 
 sub-start : tie.Need-sub-start
 sub-start c = search needs

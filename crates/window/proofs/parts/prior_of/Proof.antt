@@ -1,6 +1,6 @@
 use borrow.Author.Tests.{eq-eqb, ne-eqb}
-use Rattle.window.proofs.lanes.prior_of.Statement.{statement}
-use Rattle.window.proofs.lanes.prior_of.Tie as tie
+use Rattle.window.proofs.parts.prior_of.Statement.{statement}
+use Rattle.window.proofs.parts.prior_of.Tie as tie
 
 returns : tie.Need-returns
 returns c = rw (eq-eqb (c .before .args .ahead) 0 (c .if1 .taken))

@@ -1,8 +1,8 @@
 use Rattle.window.specs.LanesLaws.{part-is}
 use mathlib.Core.Path.{refl}
 use borrow.Author.Needs.{needs}
-use Rattle.window.proofs.lanes.part_of.Statement.{statement}
-use Rattle.window.proofs.lanes.part_of.Tie as tie
+use Rattle.window.proofs.parts.part_of.Statement.{statement}
+use Rattle.window.proofs.parts.part_of.Tie as tie
 
 shared-slice-read-prior-of : tie.Need-shared-slice-read-prior-of
 shared-slice-read-prior-of c = search needs

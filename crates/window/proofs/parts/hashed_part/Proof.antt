@@ -2,8 +2,8 @@ use Rattle.window.specs.LanesLaws.{part-cuts, one-cut, hashed-one, hashe
 use Rattle.otp.specs.StepCuts.{hashedCut}
 use Prim.Native.Nat.{_-_}
 use borrow.Author.Needs.{needs}
-use Rattle.window.proofs.lanes.hashed_part.Statement.{statement}
-use Rattle.window.proofs.lanes.hashed_part.Tie as tie
+use Rattle.window.proofs.parts.hashed_part.Statement.{statement}
+use Rattle.window.proofs.parts.hashed_part.Tie as tie
 
 sub-start : tie.Need-sub-start
 sub-start c = search needs

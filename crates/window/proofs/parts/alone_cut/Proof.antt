@@ -2,8 +2,8 @@ use mathlib.Core.Path.{refl, _∙_}
 use native.Mathlib.Omega.{arith}
 use Rattle.window.specs.LanesLaws.{hashed-cut-is, keyed-cut-is}
 use borrow.Author.Needs.{needs}
-use Rattle.window.proofs.lanes.alone_cut.Statement.{statement}
-use Rattle.window.proofs.lanes.alone_cut.Tie as tie
+use Rattle.window.proofs.parts.alone_cut.Statement.{statement}
+use Rattle.window.proofs.parts.alone_cut.Tie as tie
 
 hashed-cut-requires : tie.Need-hashed-cut-requires
 hashed-cut-requires c κs = search needs

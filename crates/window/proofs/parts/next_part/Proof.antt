@@ -4,8 +4,8 @@ use lib.ListN.{length}
 use mathlib.Core.Path.{refl, ap, _∙_}
 use native.Mathlib.Omega.{arith}
 use borrow.Author.Needs.{needs}
-use Rattle.window.proofs.lanes.next_part.Statement.{statement}
-use Rattle.window.proofs.lanes.next_part.Tie as tie
+use Rattle.window.proofs.parts.next_part.Statement.{statement}
+use Rattle.window.proofs.parts.next_part.Tie as tie
 
 hashed-part-requires : tie.Need-hashed-part-requires
 hashed-part-requires c κs = search needs
