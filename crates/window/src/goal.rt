@@ -46,7 +46,7 @@ pub(crate) fn ahead_by(goal: Goal) -> u64
     if goal.pair { 1 } else { 0 }
 }
 
-// The number of a cut's last digits. Most passwords have six, and what the compiler knows it divides by in a quarter of the time.
+// The number of a cut's last digits. Most passwords have six, and by a number that the compiler knows it divides sooner.
 fn digits_of(cut: u32, modulus: u64) -> u64
     requires { ⌜ 0 < modulus ⌝ }
     ensures { λ r. ⌜ r ≡ cut % modulus ⌝ }
