@@ -3,7 +3,8 @@ mod messages;
 mod rounds;
 mod values;
 
-pub use messages::put_block;
+pub use messages::add_block;
+pub use messages::put_four;
 use rounds::early_rounds;
 use rounds::last_rounds;
 use rounds::late_rounds;
@@ -15,7 +16,7 @@ ghost use mathlib.Core.Path.{_≡_};
 ghost use lib.ListN.{length};
 ghost use Rattle.hash_lanes.specs.FourLaws.{laneSums};
 
-// The sums of the words of the four hashes, without the carry. The messages' blocks have been put by `put_block`.
+// The sums of the words of the four hashes, without the carry. The words of the messages' blocks have been put there.
 pub fn four_sums(w: &mut [u32]) -> [u32; 4]
     requires { ⌜ length (now w) ≡ 272 ⌝ }
     ensures { λ r. ⌜ r ≡ laneSums (now (w .entry)) ⌝ }

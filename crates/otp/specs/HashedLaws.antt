@@ -1,14 +1,14 @@
 -- Laws of the SM3 way (6.2.2): key and ID laid into a buffer of zeros, and the cut of their hash.
-use Prim.Native.Nat.{ℕ, _+_, _-_, _*_, _%_, _^_, _≤_, _<_, max}
+use Prim.Native.Nat.{ℕ, _+_, _-_, _%_, _^_, _≤_, _<_, max}
 use mathlib.Core.Path.{_≡_, sym, _∙_}
-use mathlib.Core.List.{List, _∷_, _++_, append-assoc}
+use mathlib.Core.List.{List, _++_, append-assoc}
 use native.Mathlib.Nat.{zero-add}
 use native.Mathlib.Omega.{arith}
 use lib.ListN.{length, take, drop, replicate, length-append, length-replicate, replicate-append-replicate}
 use lib.Seq.{take-at, drop-at}
 use Rattle.words.specs.Bytes.{beAt, beBytes, put}
-use Rattle.words.specs.PutLaws.{put-on, put-seam}
-use Rattle.sm3.specs.Sm3.{zerosAfter, padded, digest, sm3Of}
+use Rattle.words.specs.PutLaws.{put-on}
+use Rattle.sm3.specs.Sm3.{digest, sm3Of}
 use Rattle.sm3.specs.Sm3Laws.{lastValue, wordTotal}
 use Rattle.sm3.specs.declared.Registers.{Registers}
 use Rattle.otp.specs.Password.{filled, wordSum, cut}
@@ -84,15 +84,3 @@ module _ (key id : List ℕ) {first all : List ℕ} {at end : ℕ} (k : length k
 
   pub hashed-of : {r : ℕ} → r ≡ wordTotal (lastValue (take end all)) → r ≡ cut (sm3Of (key ++ filled id))
   hashed-of h = h ∙ rw laid-message (sym (cut-hash (key ++ filled id)))
-
--- an ID put over another one of its length: the padding stands behind it already
-pub put-over : (key old id rest : List ℕ) → length old ≡ length id
-    → put (padded (key ++ filled old) ++ rest) (length key) id ≡ padded (key ++ filled id) ++ rest
-unfolding padded filled
-put-over key old id rest e =
-    let fill = replicate {A = ℕ} (16 - length id) 0 in
-    let size : length (key ++ (old ++ fill)) ≡ length (key ++ (id ++ fill)) = rw (length-append, length-append, length-append, length-append) (omega arith) in
-    let n = length (key ++ (id ++ fill)) in
-    let end : List ℕ = 0x80 ∷ (replicate (zerosAfter n) 0 ++ beBytes 8 (8 * n)) in
-    let whole : padded (key ++ filled old) ++ rest ≡ key ++ (old ++ (fill ++ (end ++ rest))) = rw (e, size) (simp append-assoc) in
-    rw whole (put-seam key old id (fill ++ (end ++ rest)) e ∙ simp append-assoc)

@@ -8,4 +8,5 @@ pub mod StepCutsLaws
 pub mod Numbers
 pub mod NumbersLaws
 pub mod HashedLaws
+pub mod SpanLaws
 pub mod StepLaws

@@ -1,99 +1,176 @@
 -- The cuts of four steps by SM3 without a challenge, whose hashes are made side by side.
-use Prim.Native.Nat.{ℕ, _+_, _-_, _*_, _/_, _≤_, _<_, zero-le}
+use Prim.Native.Nat.{ℕ, _+_, _-_, _*_, _/_, _%_, _^_, _≤_, _<_, zero-le}
 use mathlib.Core.Path.{_≡_, refl, sym, ap, _∙_}
 use mathlib.Core.Bool.{Bool, true, false, cond}
-use mathlib.Core.List.{List, [], _++_, append-nil}
+use mathlib.Core.List.{List, [], _∷_, _++_, append-assoc, append-nil}
+use native.Mathlib.Nat.{zero-add, add-zero, add-comm, mod-eq-of-lt}
 use native.Mathlib.Omega.{arith}
-use lib.ListN.{length, take, drop, replicate, length-append, length-replicate, replicate-append-replicate}
-use Rattle.words.specs.Bytes.{put}
-use Rattle.words.specs.BytesLaws.{length-beBytes}
+use borrow.Author.Tests.{ltb-true, ltb-false}
+use lib.Dec.{ltb}
+use lib.ListN.{length, getD, take, drop, replicate, length-append, length-replicate, replicate-append-replicate, List·getD-eq-default}
+use Rattle.words.specs.ListsLaws.{by-test}
+use Rattle.words.specs.Bytes.{beAt, beBytes, put}
+use Rattle.words.specs.BytesLaws.{AreBytes, length-beBytes, beBytes-split, beBytes-mod, beAt-lt}
 use Rattle.words.specs.PutLaws.{put-nothing}
-use Rattle.sm3.specs.Sm3.{sm3Of, padded, wordsAt}
-use Rattle.sm3.specs.Sm3Laws.{wordTotal}
-use Rattle.sm3.specs.PaddingLaws.{lastBlocks, last-blocks-one}
-use Rattle.hash_lanes.specs.FourLaws.{laneOf, laneSum, laneSums, Laid, Message, message-of, one-block}
-use Rattle.otp.specs.declared.Factor.{Factor}
+use Rattle.words.specs.SumLaws.{zero-get, bytes-zeros, over-zeros, beAt-sum}
+use Rattle.words.specs.SwapLaws.{bytes-append, bytes-beBytes}
+use Rattle.sm3.specs.Sm3.{zerosAfter, padded, wordsAt}
+use Rattle.sm3.specs.Sm3Laws.{wordTotal, words-append, length-padded}
+use Rattle.sm3.specs.PaddingLaws.{lastBlocks, last-blocks-one, last-blocks-fill}
+use Rattle.hash_lanes.specs.FourLaws.{laneOf, length-lane, lane-get, laneSum, laneSums, among, among-is, Across, across-same, Added, words-are, one-block}
 use Rattle.otp.specs.Password.{factorBytes, idOf, filled, cut}
-use Rattle.otp.specs.StepCuts.{timeAt, countAt, stepId, hashedCut, cutsFrom}
+use Rattle.otp.specs.StepCuts.{stepId, hashedCut, cutsFrom}
 use Rattle.otp.specs.StepCutsLaws.{four-cuts}
-use Rattle.otp.specs.HashedLaws.{cut-hash, laid-behind, laid-message, put-over}
+use Rattle.otp.specs.HashedLaws.{cut-hash, laid-behind, laid-message}
+use Rattle.otp.specs.SpanLaws.{highWord, middleWord, lowWord, placed, spanned, span-get}
 
--- a step's ID has the 8 bytes of T or the 4 of C, whichever the step is
-abbrev idSize : Bool → ℕ
-idSize timed = cond timed 8 4
+-- ---- a step's ID
 
-id-small : (timed : Bool) → idSize timed ≤ 8
-id-small true = omega arith
-id-small false = omega arith
+-- the first eight bytes of the filled ID as a number: T, or C and zeros
+abbrev pub idNumber : Bool → ℕ → ℕ
+idNumber timed s = cond timed s (s % 2 ^ 32 * 2 ^ 32)
 
-step-size : (timed : Bool) (s : ℕ) → length (stepId timed s) ≡ idSize timed
-unfolding stepId idOf factorBytes
-step-size true s = rw (append-nil, length-beBytes 8 s)
-step-size false s = rw (append-nil, length-beBytes 4 s)
+number-lt : (timed : Bool) (s : ℕ) → s < 2 ^ 64 → idNumber timed s < 2 ^ 64
+number-lt true s h = h
+number-lt false s h = omega arith
 
--- m is padded, with the key and room for an ID: whichever step's ID is put there makes it that step's message
-pub record Awaits (key : List ℕ) (timed : Bool) (m : List ℕ) : Type 0 where
-  pub with-id : (s : ℕ) → put m (length key) (stepId timed s) ≡ padded (key ++ filled (stepId timed s)) ++ replicate 64 0
+four-zeros : beBytes 4 0 ≡ replicate 4 0
+unfolding beBytes
+four-zeros = refl
 
-awaits-over : (key : List ℕ) (timed : Bool) (old : List ℕ) {m : List ℕ} → length old ≡ idSize timed → m ≡ padded (key ++ filled old) ++ replicate 64 0
-    → Awaits key timed m
-awaits-over key timed old l e = record { with-id = λ s. rw e (put-over key old (stepId timed s) (replicate 64 0) (l ∙ sym (step-size timed s))) }
+filled-number : (timed : Bool) (s : ℕ) → filled (stepId timed s) ≡ beBytes 8 (idNumber timed s) ++ replicate 8 0
+unfolding filled stepId idOf factorBytes
+filled-number true s = rw (append-nil, length-beBytes 8 s)
+filled-number false s =
+    let x = s % 2 ^ 32 * 2 ^ 32 in
+    let above : x / 256 ^ 4 ≡ s % 256 ^ 4 = omega arith in
+    let below : x % 256 ^ 4 ≡ 0 = omega arith in
+    let high : beBytes 4 (x / 256 ^ 4) ≡ beBytes 4 s = rw above (beBytes-mod 4 s) in
+    let low : beBytes 4 x ≡ replicate 4 0 = sym (beBytes-mod 4 x) ∙ rw below four-zeros in
+    rw (append-nil, length-beBytes 4 s, beBytes-split 4 4 x, high, low) (simp append-assoc)
 
-zeros-filled : (n : ℕ) → n ≤ 16 → filled [] ≡ filled (replicate n 0)
-unfolding filled
-zeros-filled n h = let e : n + (16 - n) ≡ 16 = omega arith in rw (length-replicate n, replicate-append-replicate n (16 - n), e)
+-- ---- four IDs put side by side
+
+-- one of the words of four numbers
+pub words-of : (word : ℕ → ℕ → ℕ) (timed : Bool) (s bits j : ℕ) (w w′ : List ℕ) {n₀ n₁ n₂ n₃ x₀ x₁ x₂ x₃ : ℕ}
+    → n₀ ≡ idNumber timed s → n₁ ≡ idNumber timed (s + 1) → n₂ ≡ idNumber timed (s + 2) → n₃ ≡ idNumber timed (s + 3)
+    → x₀ ≡ word n₀ bits → x₁ ≡ word n₁ bits → x₂ ≡ word n₂ bits → x₃ ≡ word n₃ bits
+    → Across j (among x₀ x₁ x₂ x₃) w w′ → Across j (λ k. word (idNumber timed (s + k)) bits) w w′
+words-of word timed s bits j w w′ {x₀ = x₀} {x₁} {x₂} {x₃} e₀ e₁ e₂ e₃ p₀ p₁ p₂ p₃ =
+    let each : ℕ → ℕ = (λ k. word (idNumber timed (s + k)) bits) in
+    let first : x₀ ≡ each 0 = p₀ ∙ rw (e₀, add-zero) in
+    across-same j (among x₀ x₁ x₂ x₃) each w w′ (among-is each first (p₁ ∙ rw e₁) (p₂ ∙ rw e₂) (p₃ ∙ rw e₃))
+
+-- each message has the number of its step's ID from byte at on
+pub record StepsPut (at : ℕ) (timed : Bool) (s : ℕ) (w w′ : List ℕ) : Type 0 where
+  pub each : (k : ℕ) → k < 4 → laneOf 68 k w′ ≡ spanned at (idNumber timed (s + k)) (laneOf 68 k w)
+
+pub steps-put : (at : ℕ) (timed : Bool) (s : ℕ) (w w₁ w₂ w₃ : List ℕ)
+    → Across (at / 4) (λ k. highWord (idNumber timed (s + k)) (8 * (at % 4))) w w₁
+    → Across (at / 4 + 1) (λ k. middleWord (idNumber timed (s + k)) (8 * (at % 4))) w₁ w₂
+    → Across (at / 4 + 2) (λ k. lowWord (idNumber timed (s + k)) (8 * (at % 4))) w₂ w₃ → StepsPut at timed s w w₃
+steps-put at timed s w w₁ w₂ w₃ high middle low = record { each = λ k h. low .each k h ∙ rw (middle .each k h, high .each k h) }
+
+-- ---- the block that they share
+
+-- what stands behind eight bytes of an ID, in a buffer of two blocks
+abbrev behindId : List ℕ → List ℕ
+behindId key =
+    let n = length key + 16 in
+    replicate 8 0 ++ ((0x80 ∷ (replicate (zerosAfter n) 0 ++ beBytes 8 (8 * n))) ++ replicate 64 0)
+
+-- the key, room for an ID, and the padding
+abbrev pub shared : List ℕ → List ℕ
+shared key = key ++ (replicate 8 0 ++ behindId key)
+
+padded-id : (key id : List ℕ) → length id ≡ 8 → padded (key ++ (id ++ replicate 8 0)) ++ replicate 64 0 ≡ key ++ (id ++ behindId key)
+unfolding padded
+padded-id key id l =
+    let n : length (key ++ (id ++ replicate 8 0)) ≡ length key + 16 = rw (length-append, length-append, length-replicate 8, l) in
+    rw n (simp append-assoc)
 
 -- the key laid into zeros, and padded with sixteen bytes more
 module _ (key : List ℕ) {first : List ℕ} {at : ℕ} (k : length key ≤ 32) (a : at ≡ 0 + length key) (f : first ≡ put (replicate 128 0) 0 key) where
   pub key-behind : drop (at + 16) first ≡ replicate (128 - (at + 16)) 0
   key-behind = laid-behind key [] k zero-le a f refl (put-nothing first at)
 
-  pub key-awaits : (timed : Bool) {all : List ℕ} {blocks : ℕ} → blocks ≡ (at + 16) / 64 + lastBlocks (at + 16)
-      → all ≡ padded (take (at + 16) first) ++ replicate (128 - 64 * blocks) 0 → Awaits key timed all
-  key-awaits timed {all} {blocks} b e =
+  pub key-shared : {all : List ℕ} {blocks : ℕ} → blocks ≡ (at + 16) / 64 + lastBlocks (at + 16)
+      → all ≡ padded (take (at + 16) first) ++ replicate (128 - 64 * blocks) 0 → all ≡ shared key
+  unfolding filled
+  key-shared {all} {blocks} b e =
       let one : blocks ≡ 1 = omega (arith, last-blocks-one (at + 16) (omega arith)) in
-      let room = replicate {A = ℕ} (idSize timed) 0 in
-      let small = id-small timed in
-      let laid : take (at + 16) first ≡ key ++ filled room =
-      laid-message key [] k zero-le a f refl (put-nothing first at) ∙ rw (zeros-filled (idSize timed) (omega arith)) in
-      awaits-over key timed room (length-replicate (idSize timed) 0) (e ∙ rw (laid, one))
+      let laid : take (at + 16) first ≡ key ++ (replicate 8 0 ++ replicate 8 0) =
+      laid-message key [] k zero-le a f refl (put-nothing first at) ∙ rw (replicate-append-replicate 8 8) in
+      e ∙ rw (laid, one) (padded-id key (replicate 8 0) (length-replicate {A = ℕ} 8 0))
 
--- the ID of step s put there
-module _ (key : List ℕ) (timed : Bool) (s : ℕ) {time count : Factor} {m m′ : List ℕ} (ready : Awaits key timed m)
-    (t : time ≡ timeAt timed s) (c : count ≡ countAt timed s) (p : m′ ≡ put m (length key) (idOf time count [])) where
-  step-put : m′ ≡ padded (key ++ filled (stepId timed s)) ++ replicate 64 0
-  unfolding stepId
-  step-put = p ∙ rw (t, c) (ready .with-id s)
+-- ---- the messages
 
-  pub step-awaits : Awaits key timed m′
-  step-awaits = awaits-over key timed (stepId timed s) (step-size timed s) step-put
+module _ (key : List ℕ) (timed : Bool) (s : ℕ) (k : length key ≤ 32) where
+  abbrev message : List ℕ
+  message = key ++ filled (stepId timed s)
 
-  pub step-message : (l : ℕ) (w w′ : List ℕ) → Laid l 16 m′ w w′ → Message l (key ++ filled (stepId timed s)) w w′
-  step-message l w w′ laid = message-of l (key ++ filled (stepId timed s)) m′ w w′ (replicate 64 0) step-put laid
+  message-size : length message ≡ length key + 16
+  message-size = rw (filled-number timed s, length-append, length-append, length-beBytes 8 (idNumber timed s))
 
-message-short : (key : List ℕ) (timed : Bool) (s : ℕ) → length key ≤ 32 → length (key ++ filled (stepId timed s)) < 56
-unfolding filled
-message-short key timed s k = let l = step-size timed s in let small = id-small timed in rw (length-append, length-append, length-replicate) (omega arith)
+  padded-number : padded message ++ replicate 64 0 ≡ key ++ (beBytes 8 (idNumber timed s) ++ behindId key)
+  padded-number = rw (filled-number timed s) (padded-id key (beBytes 8 (idNumber timed s)) (length-beBytes 8 (idNumber timed s)))
 
--- the sum of a lane is the cut of its message
-message-cut : (m : List ℕ) (l : ℕ) (w : List ℕ) → length m < 56 → take 16 (laneOf 68 l w) ≡ wordsAt 16 (padded m) 0 → laneSum l w ≡ cut (sm3Of m)
-message-cut m l w h e = rw e (ap wordTotal (one-block m h) ∙ sym (cut-hash m))
+  message-words : wordsAt 16 (padded message ++ replicate 64 0) 0 ≡ wordsAt 16 (padded message) 0
+  message-words =
+      let size = message-size in
+      let fill = last-blocks-fill (length message) in
+      let long : 64 ≤ length (padded message) = rw (length-padded message) (omega arith) in
+      words-append 16 (padded message) (replicate 64 0) 0 (omega arith)
 
--- four messages put one after the other
-pub cuts-of : (key : List ℕ) (timed : Bool) (s : ℕ) (w w₁ w₂ w₃ w₄ : List ℕ) {r : List ℕ} → length key ≤ 32
-    → Message 0 (key ++ filled (stepId timed s)) w w₁ → Message 1 (key ++ filled (stepId timed (s + 1))) w₁ w₂
-    → Message 2 (key ++ filled (stepId timed (s + 2))) w₂ w₃ → Message 3 (key ++ filled (stepId timed (s + 3))) w₃ w₄
-    → r ≡ laneSums w₄ → r ≡ cutsFrom (hashedCut key timed) 4 s
-cuts-of key timed s w w₁ w₂ w₃ w₄ k m₀ m₁ m₂ m₃ e =
-    let lane : (l : ℕ) (v : List ℕ) (n : ℕ) → laneOf 68 l w₄ ≡ laneOf 68 l v → take 16 (laneOf 68 l v) ≡ wordsAt 16 (padded (key ++ filled (stepId timed n))) 0
-    → laneSum l w₄ ≡ hashedCut key timed n =
-    (λ l v n kept block. message-cut (key ++ filled (stepId timed n)) l w₄ (message-short key timed n k) (ap (take 16) kept ∙ block)) in
-    let k₂ : laneOf 68 2 w₄ ≡ laneOf 68 2 w₃ = m₃ .rest 68 2 (omega arith) (λ z. omega arith) in
-    let k₁ : laneOf 68 1 w₄ ≡ laneOf 68 1 w₂ = m₃ .rest 68 1 (omega arith) (λ z. omega arith) ∙ m₂ .rest 68 1 (omega arith) (λ z. omega arith) in
-    let k₀ : laneOf 68 0 w₄ ≡ laneOf 68 0 w₁ =
-    m₃ .rest 68 0 (omega arith) (λ z. omega arith) ∙ m₂ .rest 68 0 (omega arith) (λ z. omega arith) ∙ m₁ .rest 68 0 (omega arith) (λ z. omega arith) in
-    let c₀ = lane 0 w₁ s k₀ (m₀ .block) in
-    let c₁ = lane 1 w₂ (s + 1) k₁ (m₁ .block) in
-    let c₂ = lane 2 w₃ (s + 2) k₂ (m₂ .block) in
-    let c₃ = lane 3 w₄ (s + 3) refl (m₃ .block) in
-    e ∙ four-cuts (hashedCut key timed) s c₀ c₁ c₂ c₃
+  -- the sum of a lane is the cut of its message
+  pub lane-cut : (l : ℕ) (w : List ℕ) → take 16 (laneOf 68 l w) ≡ wordsAt 16 (padded message ++ replicate 64 0) 0 → laneSum l w ≡ hashedCut key timed s
+  lane-cut l w e =
+      let size = message-size in
+      rw (e ∙ message-words) (ap wordTotal (one-block message (omega arith)) ∙ sym (cut-hash message))
+
+lane-zeros : (l n i : ℕ) → getD {A = ℕ} (laneOf 68 l (replicate n 0)) i 0 ≡ 0
+lane-zeros l n i =
+    by-test (ltb i 68)
+    (λ t. lane-get 68 l (replicate n 0) i (ltb-true i 68 t) ∙ zero-get n (4 * i + l))
+    (λ t. List·getD-eq-default (laneOf 68 l (replicate n 0)) 0 (rw (length-lane 68 l (replicate n 0)) (ltb-false i 68 t)))
+
+padding-byte : AreBytes (0x80 ∷ [])
+unfolding beBytes
+padding-byte = bytes-beBytes 1 0x80
+
+-- a number put there and the shared block add up to the message
+module _ (key : List ℕ) (bytes : AreBytes key) (k : length key ≤ 32) where
+  bytes-behind : AreBytes (behindId key)
+  bytes-behind =
+      let n = length key + 16 in
+      let zeros = replicate {A = ℕ} (zerosAfter n) 0 in
+      let padding : List ℕ = 0x80 ∷ (zeros ++ beBytes 8 (8 * n)) in
+      bytes-append (replicate 8 0) (padding ++ replicate 64 0) (bytes-zeros 8)
+      (bytes-append padding (replicate 64 0)
+      (bytes-append (0x80 ∷ []) (zeros ++ beBytes 8 (8 * n)) padding-byte (bytes-append zeros (beBytes 8 (8 * n)) (bytes-zeros (zerosAfter n)) (bytes-beBytes 8 (8 * n))))
+      (bytes-zeros 64))
+
+  number-over : (n at : ℕ) → (beAt 4 (placed (length key) n) at + beAt 4 (shared key) at) % 2 ^ 32 ≡ beAt 4 (key ++ (beBytes 8 n ++ behindId key)) at
+  number-over n at =
+      let id = beBytes 8 n in
+      let whole = key ++ (id ++ behindId key) in
+      let are : AreBytes whole = bytes-append key (id ++ behindId key) bytes (bytes-append id (behindId key) (bytes-beBytes 8 n) bytes-behind) in
+      let sum : beAt 4 whole at ≡ beAt 4 (shared key) at + beAt 4 (placed (length key) n) at =
+      beAt-sum 4 whole (shared key) (placed (length key) n) at (λ i. over-zeros key id (behindId key) i ∙ rw (length-beBytes 8 n)) in
+      rw (add-comm (beAt 4 (placed (length key) n) at) (beAt 4 (shared key) at), ← sum) (mod-eq-of-lt (beAt-lt 4 whole at are))
+
+  module _ (timed : Bool) (s : ℕ) (w w₁ w₂ : List ℕ) {at : ℕ} {block : List ℕ} (h : s < 2 ^ 63) (z : w ≡ replicate 272 0)
+      (a : at ≡ 0 + length key) (b : block ≡ shared key) (put : StepsPut at timed s w w₁) (added : Added 16 block w₁ w₂) where
+    lane-words : (l : ℕ) → l < 4 → laneSum l w₂ ≡ hashedCut key timed (s + l)
+    lane-words l p =
+        let n = idNumber timed (s + l) in
+        let number : (i : ℕ) → getD (laneOf 68 l w₁) i 0 ≡ beAt 4 (placed (length key) n) (4 * i) =
+        (λ i. rw (put .each l p, a, zero-add) (span-get (length key) n (number-lt timed (s + l) (omega arith)) (laneOf 68 l w) i k (length-lane 68 l w) (λ i. rw z (lane-zeros l 272 i)))) in
+        let word : (i : ℕ) → i < 16 → getD (laneOf 68 l w₂) i 0 ≡ beAt 4 (padded (key ++ filled (stepId timed (s + l))) ++ replicate 64 0) (4 * i) =
+        (λ i q. added .done l i p q ∙ rw (number i, b, padded-number key timed (s + l) k) (number-over n (4 * i))) in
+        lane-cut key timed (s + l) k l w₂ (words-are 16 (laneOf 68 l w₂) (padded (key ++ filled (stepId timed (s + l))) ++ replicate 64 0) (rw (length-lane 68 l w₂) (omega arith)) word)
+
+    pub cuts-of : {r : List ℕ} → r ≡ laneSums w₂ → r ≡ cutsFrom (hashedCut key timed) 4 s
+    cuts-of e =
+        let first : laneSum 0 w₂ ≡ hashedCut key timed s = lane-words 0 (omega arith) ∙ rw add-zero in
+        e ∙ four-cuts (hashedCut key timed) s first (lane-words 1 (omega arith)) (lane-words 2 (omega arith)) (lane-words 3 (omega arith))

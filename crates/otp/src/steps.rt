@@ -1,19 +1,17 @@
 // The cuts of four consecutive steps by SM3 without a challenge, side by side, for the proved layers above.
 use crate::Factor;
 use crate::id::put_bytes;
-use crate::id::put_id;
 use crate::prepared::hashed;
+use hash_lanes::add_block;
 use hash_lanes::four_sums;
-use hash_lanes::put_block;
+use hash_lanes::put_four;
 use sm3::sums::pad;
 ghost use mathlib.Core.Path.{_≡_};
-ghost use mathlib.Core.List.{_++_};
 ghost use Prim.Native.Nat.{_^_, _≤_, _<_};
 ghost use lib.ListN.{length};
-ghost use Rattle.hash_lanes.specs.FourLaws.{Message};
-ghost use Rattle.otp.specs.Password.{filled};
-ghost use Rattle.otp.specs.StepCuts.{timeAt, countAt, stepId, hashedCut, cutsFrom};
-ghost use Rattle.otp.specs.StepLaws.{Awaits};
+ghost use Rattle.otp.specs.StepCuts.{timeAt, countAt, hashedCut, cutsFrom};
+ghost use Rattle.otp.specs.SpanLaws.{highWord, middleWord, lowWord};
+ghost use Rattle.otp.specs.StepLaws.{idNumber, StepsPut};
 
 // A time token's step is its time factor T, an event token's its count C.
 pub fn time_at(timed: bool, s: u64) -> Factor
@@ -47,21 +45,76 @@ pub fn hashed_cut(key: &[u8], timed: bool, s: u64) -> u32
     hashed(key, time, count, &none)
 }
 
-// Puts the ID of step s behind the key, over what stands there, and the block as message l.
-fn put_step(w: &mut [u32], l: usize, m: &mut [u8], key: &[u8], timed: bool, s: u64)
-    requires { ⌜ l < 4 ⌝ }
-    requires { ⌜ length (now w) ≡ 272 ⌝ }
-    requires { ⌜ length (now m) ≡ 128 ⌝ }
-    requires { ⌜ length (now key) ≤ 32 ⌝ }
-    requires { ⌜ Awaits (now key) timed (now m) ⌝ }
-    ensures { λ _. ⌜ Message l (now (key .entry) ++ filled (stepId timed s)) (now (w .entry)) (now (w .exit)) ⌝ }
-    ensures { λ _. ⌜ Awaits (now (key .entry)) timed (now (m .exit)) ⌝ }
+// The first eight bytes of a step's filled ID as a number: T, or C and zeros.
+fn id_number(timed: bool, s: u64) -> u64
+    ensures { λ r. ⌜ r ≡ idNumber timed s ⌝ }
 {
-    let none = [0u8; 0];
-    let time = time_at(timed, s);
-    let count = count_at(timed, s);
-    put_id(m, key.len(), time, count, &none);
-    put_block(w, l, m);
+    if timed {
+        s
+    } else {
+        s % 0x1_0000_0000 * 0x1_0000_0000
+    }
+}
+
+// The three words over which the eight bytes of n reach, if they begin `bits` behind the beginning of the first.
+fn high_word(n: u64, bits: u32) -> u32
+    requires { ⌜ bits < 32 ⌝ }
+    ensures { λ r. ⌜ r ≡ highWord n bits ⌝ }
+{
+    (n >> (32 + bits)) as u32
+}
+
+fn middle_word(n: u64, bits: u32) -> u32
+    requires { ⌜ bits < 32 ⌝ }
+    ensures { λ r. ⌜ r ≡ middleWord n bits ⌝ }
+{
+    ((n >> bits) % 0x1_0000_0000) as u32
+}
+
+fn low_word(n: u64, bits: u32) -> u32
+    requires { ⌜ bits < 32 ⌝ }
+    ensures { λ r. ⌜ r ≡ lowWord n bits ⌝ }
+{
+    ((n << (32 - bits)) % 0x1_0000_0000) as u32
+}
+
+// Puts the IDs of the steps s to s + 3 from byte at on, each into its message.
+fn put_steps(w: &mut [u32], at: usize, timed: bool, s: u64)
+    requires { ⌜ length (now w) ≡ 272 ⌝ }
+    requires { ⌜ at ≤ 32 ⌝ }
+    requires { ⌜ s < 2 ^ 63 ⌝ }
+    ensures { λ _. ⌜ StepsPut at timed s (now (w .entry)) (now (w .exit)) ⌝ }
+{
+    let j = at / 4;
+    let bits = 8 * (at % 4) as u32;
+    let a = id_number(timed, s);
+    let b = id_number(timed, s + 1);
+    let c = id_number(timed, s + 2);
+    let d = id_number(timed, s + 3);
+    put_four(
+        w,
+        j,
+        high_word(a, bits),
+        high_word(b, bits),
+        high_word(c, bits),
+        high_word(d, bits),
+    );
+    put_four(
+        w,
+        j + 1,
+        middle_word(a, bits),
+        middle_word(b, bits),
+        middle_word(c, bits),
+        middle_word(d, bits),
+    );
+    put_four(
+        w,
+        j + 2,
+        low_word(a, bits),
+        low_word(b, bits),
+        low_word(c, bits),
+        low_word(d, bits),
+    );
 }
 
 // The cuts of the steps s to s + 3. Key and padding are laid once.
@@ -74,9 +127,7 @@ pub fn hashed_cuts(key: &[u8], timed: bool, s: u64) -> [u32; 4]
     let at = put_bytes(&mut m, 0, key);
     pad(&mut m, at + 16);
     let mut w = [0u32; 272];
-    put_step(&mut w, 0, &mut m, key, timed, s);
-    put_step(&mut w, 1, &mut m, key, timed, s + 1);
-    put_step(&mut w, 2, &mut m, key, timed, s + 2);
-    put_step(&mut w, 3, &mut m, key, timed, s + 3);
+    put_steps(&mut w, at, timed, s);
+    add_block(&mut w, &m);
     four_sums(&mut w)
 }

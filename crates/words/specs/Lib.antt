@@ -6,6 +6,7 @@ pub mod Words
 pub mod WordsLaws
 pub mod Lists
 pub mod ListsLaws
+pub mod SumLaws
 pub mod SwapLaws
 pub mod ByteBitsLaws
 pub mod Tables

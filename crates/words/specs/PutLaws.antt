@@ -1,6 +1,6 @@
 -- Laws of a part put over a list.
 use Prim.Native.Nat.{ℕ, _+_, _-_, _≤_}
-use mathlib.Core.Path.{_≡_, refl, sym}
+use mathlib.Core.Path.{_≡_, sym}
 use mathlib.Core.List.{List, [], _++_, append-assoc, append-nil}
 use native.Mathlib.Nat.{add-zero}
 use native.Mathlib.Omega.{arith}
@@ -25,14 +25,6 @@ put-on s at a b h =
     rw (e, ← drop-drop (length b) (at + length a) (put s at a), whole, drop-at (take at s ++ a) (drop (at + length a) s) (at + length a) l)
     (drop-drop (length b) (at + length a) s)) in
     rw (front, back) (simp append-assoc)
-
--- a part put over one of its length between two lists
-pub put-seam : (a old b c : List ℕ) → length old ≡ length b → put (a ++ (old ++ c)) (length a) b ≡ a ++ (b ++ c)
-put-seam a old b c e =
-    let front : take (length a) (a ++ (old ++ c)) ≡ a = take-at a (old ++ c) (length a) refl in
-    let back : drop (length a + length b) (a ++ (old ++ c)) ≡ c =
-    rw (← drop-drop (length b) (length a), drop-at a (old ++ c) (length a) refl) (drop-at old c (length b) e) in
-    rw (front, back)
 
 -- a part of a lent buffer, copied over and given back
 pub put-part : (s : List ℕ) (at : ℕ) (b : List ℕ) {part : List ℕ} → at + length b ≤ length s

@@ -76,7 +76,7 @@ swap-be (suc k) s at h =
     let q : (beAt k s at * 256 + getD s (at + k) 0) / 256 ≡ beAt k s at = omega arith in
     rw (r, q, swap-be k s at h) (omega arith)
 
-bytes-append : (a b : List ℕ) → AreBytes a → AreBytes b → AreBytes (a ++ b)
+pub bytes-append : (a b : List ℕ) → AreBytes a → AreBytes b → AreBytes (a ++ b)
 bytes-append [] b p q i = q i
 bytes-append (x ∷ a) b p q zero = p zero
 bytes-append (x ∷ a) b p q (suc i) = bytes-append a b (λ j. p (suc j)) q i
