@@ -29,10 +29,10 @@ abbrev pub passes : List ℕ → Wanted → ℕ → Bool
 passes s (Serial wanted) at = not (isEmpty s at) && serialIs s wanted at
 passes s Empty at = isEmpty s at
 
--- whether four rows are left, and none of them has the serial
-unfoldable pub fourLack : List ℕ → ℕ → ℕ → ℕ → Bool
-fourLack s wanted at left =
-    leb 4 left && not (((serialIs s wanted at || serialIs s wanted (at + 96)) || serialIs s wanted (at + 192)) || serialIs s wanted (at + 288))
+-- whether four rows are left at a place, and none of them has the serial
+unfoldable pub fourLack : List ℕ → ℕ → ℕ → Bool
+fourLack s wanted at =
+    leb (at + 384) (length s) && not (((serialIs s wanted at || serialIs s wanted (at + 96)) || serialIs s wanted (at + 192)) || serialIs s wanted (at + 288))
 
 -- ---- the loop: the rows that are left give what all give
 
@@ -62,43 +62,44 @@ or-right : (a b : Bool) → a || b ≡ false → b ≡ false
 or-right true b t = cc
 or-right false b t = t
 
-module _ (s : List ℕ) (wanted at left : ℕ) where
-  pub few-left : left < 4 → false ≡ fourLack s wanted at left
+module _ (s : List ℕ) (wanted at : ℕ) where
+  pub few-left : length s < at + 384 → false ≡ fourLack s wanted at
   unfolding fourLack
-  few-left h = rw (lt-leb 4 left h)
+  few-left h = rw (lt-leb (at + 384) (length s) h)
 
-  pub four-left : {a b c d : Bool} → 4 ≤ left → a ≡ serialIs s wanted at → b ≡ serialIs s wanted (at + 96) → c ≡ serialIs s wanted (at + 192) → d ≡ serialIs s wanted (at + 288)
-      → not (((a || b) || c) || d) ≡ fourLack s wanted at left
+  pub four-left : {a b c d : Bool} → at + 384 ≤ length s → a ≡ serialIs s wanted at → b ≡ serialIs s wanted (at + 96) → c ≡ serialIs s wanted (at + 192) → d ≡ serialIs s wanted (at + 288)
+      → not (((a || b) || c) || d) ≡ fourLack s wanted at
   unfolding fourLack
-  four-left h p q r t = rw (le-leb 4 left h, p, q, r, t)
+  four-left h p q r t = rw (le-leb (at + 384) (length s) h, p, q, r, t)
 
 -- a row without the serial does not pass
 lacks : (s : List ℕ) (wanted at : ℕ) → serialIs s wanted at ≡ false → passes s (Serial wanted) at ≡ false
 lacks s wanted at t = rw t (and-false (not (isEmpty s at)))
 
-pub enough-left : (s : List ℕ) (wanted at left : ℕ) → fourLack s wanted at left ≡ true → 4 ≤ left
+pub enough-left : (s : List ℕ) (wanted at : ℕ) → fourLack s wanted at ≡ true → at + 384 ≤ length s
 unfolding fourLack
-enough-left s wanted at left t = leb-true 4 left (and-left (leb 4 left) _ t)
+enough-left s wanted at t = leb-true (at + 384) (length s) (and-left (leb (at + 384) (length s)) _ t)
 
 four-fail : (test : ℕ → Bool) (left at : ℕ) → test at ≡ false → test (at + 96) ≡ false → test (at + 192) ≡ false → test (at + 288) ≡ false
     → firstRow test left (at + 384) ≡ firstRow test (suc (suc (suc (suc left)))) at
 unfolding firstRow
 four-fail test left at p q r t = rw (p, q, add-assoc at 96 96, r, add-assoc at 192 96, t, add-assoc at 288 96)
 
-pub four-passed : (s : List ℕ) (wanted at left : ℕ) → fourLack s wanted at left ≡ true
-    → firstRow (passes s (Serial wanted)) (left - 4) (at + 384) ≡ firstRow (passes s (Serial wanted)) left at
+pub four-passed : (s : List ℕ) (wanted at : ℕ) → fourLack s wanted at ≡ true
+    → firstRow (passes s (Serial wanted)) ((length s - (at + 384)) / 96) (at + 384) ≡ firstRow (passes s (Serial wanted)) ((length s - at) / 96) at
 unfolding fourLack
-four-passed s wanted at left t =
+four-passed s wanted at t =
     let a = serialIs s wanted at in
     let b = serialIs s wanted (at + 96) in
     let c = serialIs s wanted (at + 192) in
     let d = serialIs s wanted (at + 288) in
-    let none : ((a || b) || c) || d ≡ false = not-true (((a || b) || c) || d) (and-right (leb 4 left) (not (((a || b) || c) || d)) t) in
+    let none : ((a || b) || c) || d ≡ false = not-true (((a || b) || c) || d) (and-right (leb (at + 384) (length s)) (not (((a || b) || c) || d)) t) in
     let three : (a || b) || c ≡ false = or-left ((a || b) || c) d none in
     let two : a || b ≡ false = or-left (a || b) c three in
-    let h = enough-left s wanted at left t in
-    let e : suc (suc (suc (suc (left - 4)))) ≡ left = omega arith in
-    four-fail (passes s (Serial wanted)) (left - 4) at
+    let h = enough-left s wanted at t in
+    let left = (length s - (at + 384)) / 96 in
+    let e : suc (suc (suc (suc left))) ≡ (length s - at) / 96 = omega arith in
+    four-fail (passes s (Serial wanted)) left at
     (lacks s wanted at (or-left a b two))
     (lacks s wanted (at + 96) (or-right a b two))
     (lacks s wanted (at + 192) (or-right (a || b) c three))

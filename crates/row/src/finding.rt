@@ -57,11 +57,11 @@ fn first_of(table: &[u8], wanted: Wanted, start: usize, rows: usize) -> Place
 }
 
 // Whether four rows are left, and none of them has the wanted serial.
-fn four_lack(table: &[u8], wanted: u64, at: usize, left: usize) -> bool
-    requires { ⌜ at + left * 96 ≤ length (now table) ⌝ }
-    ensures { λ r. ⌜ r ≡ fourLack (now (table .entry)) wanted at left ⌝ }
+fn four_lack(table: &[u8], wanted: u64, at: usize) -> bool
+    requires { ⌜ at ≤ length (now table) ⌝ }
+    ensures { λ r. ⌜ r ≡ fourLack (now (table .entry)) wanted at ⌝ }
 {
-    if left < 4 {
+    if table.len() < at + 4 * ROW_BYTES {
         return false;
     }
     !(serial_is(table, wanted, at)
@@ -75,12 +75,11 @@ fn first_with(table: &[u8], wanted: u64) -> Place
     ensures { λ r. ⌜ r ≡ firstRow (passes (now (table .entry)) (Serial wanted)) (length (now (table .entry)) / 96) 0 ⌝ }
 {
     let mut at = 0;
-    let mut left = table.len() / ROW_BYTES;
-    while four_lack(table, wanted, at, left) {
+    while four_lack(table, wanted, at) {
         at += 4 * ROW_BYTES;
-        left -= 4;
     }
-    first_of(table, Wanted::Serial(wanted), at, left)
+    let rows = (table.len() - at) / ROW_BYTES;
+    first_of(table, Wanted::Serial(wanted), at, rows)
 }
 
 // The serial's row: the first one not empty that has it.
