@@ -1,93 +1,19 @@
--- Four messages side by side: word i of message l stands at 4 i + l. What is done to a message's words is what the laws of one message say.
-use Prim.Native.Nat.{ℕ, zero, suc, _+_, _-_, _*_, _/_, _%_, _^_, _≤_, _<_}
-use mathlib.Core.Path.{_≡_, refl, sym, ap, _∙_}
-use mathlib.Core.List.{List, [], _∷_, _++_}
-use native.Mathlib.Nat.{zero-add, add-zero, not-suc-le-zero}
-use native.Mathlib.Numerals.{add-one}
+-- Four hashes side by side. What is done to a message's words is what the laws of one message say.
+use Prim.Native.Nat.{ℕ, zero, suc, _+_, _-_, _*_, _/_, _≤_, _<_}
+use mathlib.Core.Path.{_≡_, refl, ap, _∙_}
+use mathlib.Core.List.{List, [], _∷_}
+use native.Mathlib.Nat.{zero-add, not-suc-le-zero}
 use native.Mathlib.Omega.{arith}
 use borrow.Author.Tests.{ltb-true, ltb-false}
 use lib.Dec.{ltb}
-use lib.ListN.{length, getD, set, take, length-append, length-set, List·getD-append}
-use lib.Seq.{take-suc, getD-append-seam, getD-set-same, getD-set-other, set-append-left, set-at, set-out}
+use lib.ListN.{length, getD, set, take, length-set}
 use Rattle.words.specs.ListsLaws.{by-test}
-use Rattle.words.specs.Bytes.{beAt}
 use Rattle.words.specs.Words.{_⊕_, _⋘_}
 use Rattle.sm3.specs.declared.Registers.{Registers}
 use Rattle.sm3.specs.Sm3.{ff, gg, p1, roundWith, round, nextWord, wordsAt, padded, iterated, iv, compressed, xored}
 use Rattle.sm3.specs.Sm3Laws.{constants, round-of, fourRounds, grown, four-grown, four-past, Reached, reached-none, reached-more, reached-on, compress-of, length-padded, lastValue, wordTotal}
 use Rattle.sm3.specs.PaddingLaws.{last-blocks-one}
-
--- ---- one message's words
-
--- the first n words of message l
-unfoldable pub laneOf : ℕ → ℕ → List ℕ → List ℕ
-laneOf zero l s = []
-laneOf (suc n) l s = laneOf n l s ++ (getD s (4 * n + l) 0 ∷ [])
-
-pub length-lane : (n l : ℕ) (s : List ℕ) → length (laneOf n l s) ≡ n
-unfolding laneOf
-length-lane zero l s = refl
-length-lane (suc n) l s = length-append (laneOf n l s) (getD s (4 * n + l) 0 ∷ []) ∙ rw (length-lane n l s) (add-one n)
-
-pub lane-get : (n l : ℕ) (s : List ℕ) (i : ℕ) → i < n → getD (laneOf n l s) i 0 ≡ getD s (4 * i + l) 0
-unfolding laneOf
-lane-get zero l s i h = absurd (not-suc-le-zero h)
-lane-get (suc n) l s i h =
-    by-test (ltb i n)
-    (λ t. let m : i < n = ltb-true i n t in
-    List·getD-append (laneOf n l s) (getD s (4 * n + l) 0 ∷ []) 0 i (rw (length-lane n l s) m) ∙ lane-get n l s i m)
-    (λ t. let m : n ≤ i = ltb-false i n t in
-    let e : i ≡ length (laneOf n l s) = rw (length-lane n l s) (omega arith) in
-    let f : i ≡ n = omega arith in
-    ap (λ (k : ℕ). getD (laneOf n l s ++ (getD s (4 * n + l) 0 ∷ [])) k 0) e
-    ∙ getD-append-seam (laneOf n l s) (getD s (4 * n + l) 0) [] 0 ∙ rw f)
-
--- a store into message l's word i
-pub lane-set : (n l : ℕ) (s : List ℕ) (i x : ℕ) → 4 * i + l < length s → laneOf n l (set s (4 * i + l) x) ≡ set (laneOf n l s) i x
-unfolding laneOf
-lane-set zero l s i x h = refl
-lane-set (suc n) l s i x h =
-    let old = laneOf n l s in
-    let y = getD s (4 * n + l) 0 in
-    let ih = lane-set n l s i x h in
-    let len = length-lane n l s in
-    by-test (ltb i n)
-    (λ t. let m : i < n = ltb-true i n t in
-    let kept : getD (set s (4 * i + l) x) (4 * n + l) 0 ≡ y = getD-set-other s (4 * i + l) (4 * n + l) x 0 (λ e. omega arith) in
-    rw (ih, kept) (sym (set-append-left old (y ∷ []) i x (rw len m))))
-    (λ t. let m : n ≤ i = ltb-false i n t in
-    by-test (ltb n i)
-    (λ u. let k : n < i = ltb-true n i u in
-    let kept : getD (set s (4 * i + l) x) (4 * n + l) 0 ≡ y = getD-set-other s (4 * i + l) (4 * n + l) x 0 (λ e. omega arith) in
-    rw (ih, kept, set-out old i x (rw len m)) (sym (set-out (old ++ (y ∷ [])) i x (rw (length-append old (y ∷ []), len) (omega arith)))))
-    (λ u. let k : i ≤ n = ltb-false n i u in
-    let e : i ≡ n = omega arith in
-    let same : getD (set s (4 * i + l) x) (4 * n + l) 0 ≡ x = rw (← e) (getD-set-same s (4 * i + l) x 0 h) in
-    rw (ih, same, set-out old i x (rw len m)) (sym (set-at old y [] x i (len ∙ sym e)))))
-
--- a store into another message's word is not seen
-lane-other : (n k l : ℕ) (s : List ℕ) (i x : ℕ) → k < 4 → l < 4 → (k ≡ l → ⊥) → laneOf n k (set s (4 * i + l) x) ≡ laneOf n k s
-unfolding laneOf
-lane-other zero k l s i x p q h = refl
-lane-other (suc n) k l s i x p q h =
-    let apart : 4 * n + k ≡ 4 * i + l → ⊥ = λ e. h (omega arith) in
-    rw (lane-other n k l s i x p q h, getD-set-other s (4 * i + l) (4 * n + k) x 0 apart)
-
--- what happens to message l leaves the others
-abbrev pub Apart : ℕ → List ℕ → List ℕ → Type 0
-Apart l s s′ = (n k : ℕ) → k < 4 → (k ≡ l → ⊥) → laneOf n k s′ ≡ laneOf n k s
-
-apart-set : (l : ℕ) (s : List ℕ) (i x : ℕ) → l < 4 → Apart l s (set s (4 * i + l) x)
-apart-set l s i x q = λ n k p h. lane-other n k l s i x p q h
-
-apart-then : (l : ℕ) (s s′ s″ : List ℕ) → Apart l s s′ → Apart l s′ s″ → Apart l s s″
-apart-then l s s′ s″ a b = λ n k p h. b n k p h ∙ a n k p h
-
-apart-more : (l : ℕ) (s s′ : List ℕ) (i x : ℕ) {s″ : List ℕ} → l < 4 → Apart l s s′ → s″ ≡ set s′ (4 * i + l) x → Apart l s s″
-apart-more l s s′ i x {s″} q a e = λ n k p h. ap (laneOf n k) e ∙ apart-then l s s′ (set s′ (4 * i + l) x) a (apart-set l s′ i x q) n k p h
-
-apart-none : (l : ℕ) (s : List ℕ) → Apart l s s
-apart-none l s = λ n k p h. refl
+use Rattle.hash_lanes.specs.LaneLaws.{laneOf, length-lane, lane-get, lane-set, Apart, apart-more, apart-none}
 
 -- ---- the words
 
@@ -132,106 +58,6 @@ grew-four w l j {w₁} {w₂} {w₃} {w₄} q h k k₁ k₂ k₃ p₁ p₂ p₃ 
 -- past W_67 there is nothing to grow
 pub grew-past : (l j : ℕ) (w : List ℕ) → 68 ≤ j → Grew l j w w
 grew-past l j w h = record { words = four-past (laneOf 68 l w) j (rw (length-lane 68 l w) h); rest = apart-none l w }
-
--- ---- a word of each message
-
--- what holds of each of four
-pub four-cases : (P : ℕ → Type 0) → P 0 → P 1 → P 2 → P 3 → (k : ℕ) → k < 4 → P k
-four-cases P a b c d zero h = a
-four-cases P a b c d (suc zero) h = b
-four-cases P a b c d (suc (suc zero)) h = c
-four-cases P a b c d (suc (suc (suc zero))) h = d
-four-cases P a b c d (suc (suc (suc (suc k)))) h = absurd (omega arith)
-
--- the one of four that is message k's
-unfoldable pub among : ℕ → ℕ → ℕ → ℕ → ℕ → ℕ
-among a b c d zero = a
-among a b c d (suc zero) = b
-among a b c d (suc (suc zero)) = c
-among a b c d (suc (suc (suc k))) = d
-
-pub among-is : (x : ℕ → ℕ) {a b c d : ℕ} → a ≡ x 0 → b ≡ x 1 → c ≡ x 2 → d ≡ x 3 → (k : ℕ) → k < 4 → among a b c d k ≡ x k
-unfolding among
-among-is x {a} {b} {c} {d} p q r s = four-cases (λ k. among a b c d k ≡ x k) p q r s
-
--- x k is put as word j of message k
-pub record Across (j : ℕ) (x : ℕ → ℕ) (w w′ : List ℕ) : Type 0 where
-  pub each : (k : ℕ) → k < 4 → laneOf 68 k w′ ≡ set (laneOf 68 k w) j (x k)
-
-pub across-same : (j : ℕ) (x y : ℕ → ℕ) (w w′ : List ℕ) → ((k : ℕ) → k < 4 → x k ≡ y k) → Across j x w w′ → Across j y w w′
-across-same j x y w w′ e across = record { each = λ k h. across .each k h ∙ rw (e k h) }
-
-pub across-four : (w : List ℕ) (j a b c d : ℕ) {w₁ w₂ w₃ w₄ : List ℕ} → j < 68 → length w ≡ 272
-    → w₁ ≡ set w (4 * j) a → w₂ ≡ set w₁ (4 * j + 1) b → w₃ ≡ set w₂ (4 * j + 2) c → w₄ ≡ set w₃ (4 * j + 3) d → Across j (among a b c d) w w₄
-unfolding among
-across-four w j a b c d {w₁} {w₂} {w₃} {w₄} h l p₀ p₂ p₃ p₄ =
-    let p₁ : w₁ ≡ set w (4 * j + 0) a = p₀ ∙ rw add-zero in
-    let l₁ : length w₁ ≡ 272 = rw (p₁, length-set) l in
-    let l₂ : length w₂ ≡ 272 = rw (p₂, length-set) l₁ in
-    let l₃ : length w₃ ≡ 272 = rw (p₃, length-set) l₂ in
-    let past₁ : (k : ℕ) → k < 4 → (k ≡ 0 → ⊥) → laneOf 68 k w₁ ≡ laneOf 68 k w =
-    (λ k q n. ap (laneOf 68 k) p₁ ∙ lane-other 68 k 0 w j a q (omega arith) n) in
-    let past₂ : (k : ℕ) → k < 4 → (k ≡ 1 → ⊥) → laneOf 68 k w₂ ≡ laneOf 68 k w₁ =
-    (λ k q n. ap (laneOf 68 k) p₂ ∙ lane-other 68 k 1 w₁ j b q (omega arith) n) in
-    let past₃ : (k : ℕ) → k < 4 → (k ≡ 2 → ⊥) → laneOf 68 k w₃ ≡ laneOf 68 k w₂ =
-    (λ k q n. ap (laneOf 68 k) p₃ ∙ lane-other 68 k 2 w₂ j c q (omega arith) n) in
-    let past₄ : (k : ℕ) → k < 4 → (k ≡ 3 → ⊥) → laneOf 68 k w₄ ≡ laneOf 68 k w₃ =
-    (λ k q n. ap (laneOf 68 k) p₄ ∙ lane-other 68 k 3 w₃ j d q (omega arith) n) in
-    let put₁ = ap (laneOf 68 0) p₁ ∙ lane-set 68 0 w j a (omega arith) in
-    let put₂ = ap (laneOf 68 1) p₂ ∙ lane-set 68 1 w₁ j b (omega arith) in
-    let put₃ = ap (laneOf 68 2) p₃ ∙ lane-set 68 2 w₂ j c (omega arith) in
-    let put₄ = ap (laneOf 68 3) p₄ ∙ lane-set 68 3 w₃ j d (omega arith) in
-    let e₀ : laneOf 68 0 w₄ ≡ set (laneOf 68 0 w) j a =
-    past₄ 0 (omega arith) (λ n. omega arith) ∙ past₃ 0 (omega arith) (λ n. omega arith) ∙ past₂ 0 (omega arith) (λ n. omega arith) ∙ put₁ in
-    let e₁ : laneOf 68 1 w₄ ≡ set (laneOf 68 1 w) j b =
-    past₄ 1 (omega arith) (λ n. omega arith) ∙ past₃ 1 (omega arith) (λ n. omega arith) ∙ put₂ ∙ rw (past₁ 1 (omega arith) (λ n. omega arith)) in
-    let e₂ : laneOf 68 2 w₄ ≡ set (laneOf 68 2 w) j c =
-    past₄ 2 (omega arith) (λ n. omega arith) ∙ put₃ ∙ rw (past₂ 2 (omega arith) (λ n. omega arith), past₁ 2 (omega arith) (λ n. omega arith)) in
-    let e₃ : laneOf 68 3 w₄ ≡ set (laneOf 68 3 w) j d =
-    put₄ ∙ rw (past₃ 3 (omega arith) (λ n. omega arith), past₂ 3 (omega arith) (λ n. omega arith), past₁ 3 (omega arith) (λ n. omega arith)) in
-    record { each = four-cases (λ k. laneOf 68 k w₄ ≡ set (laneOf 68 k w) j (among a b c d k)) e₀ e₁ e₂ e₃ }
-
--- x added to word j of message k, without the carry
-abbrev pub raised : ℕ → ℕ → List ℕ → ℕ → ℕ
-raised x j w k = (getD w (4 * j + k) 0 + x) % 2 ^ 32
-
-pub raised-four : (w w′ : List ℕ) (j x : ℕ) {a b c d : ℕ} → a ≡ (getD w (4 * j) 0 + x) % 2 ^ 32 → b ≡ raised x j w 1 → c ≡ raised x j w 2 → d ≡ raised x j w 3
-    → Across j (among a b c d) w w′ → Across j (raised x j w) w w′
-raised-four w w′ j x {a} {b} {c} {d} p q r s =
-    let first : a ≡ raised x j w 0 = p ∙ rw add-zero in
-    across-same j (among a b c d) (raised x j w) w w′ (among-is (raised x j w) first q r s)
-
--- the first n words of the block m are added to those of each message
-pub record Added (n : ℕ) (m w w′ : List ℕ) : Type 0 where
-  pub done : (k i : ℕ) → k < 4 → i < n → getD (laneOf 68 k w′) i 0 ≡ (getD (laneOf 68 k w) i 0 + beAt 4 m (4 * i)) % 2 ^ 32
-  pub left : (k i : ℕ) → k < 4 → n ≤ i → getD (laneOf 68 k w′) i 0 ≡ getD (laneOf 68 k w) i 0
-
-pub added-none : (m w : List ℕ) → Added 0 m w w
-added-none m w = record { done = λ k i p h. absurd (not-suc-le-zero h); left = λ k i p h. refl }
-
-pub added-more : (n : ℕ) (m w w₁ w₂ : List ℕ) {x : ℕ} → n < 16 → Added n m w w₁ → x ≡ beAt 4 m (4 * n) → Across n (raised x n w₁) w₁ w₂ → Added (n + 1) m w w₂
-added-more n m w w₁ w₂ {x} h added e across =
-    let at : (k i : ℕ) → k < 4 → getD (laneOf 68 k w₂) i 0 ≡ getD (set (laneOf 68 k w₁) n (raised x n w₁ k)) i 0 =
-    (λ k i p. ap (λ (s : List ℕ). getD s i 0) (across .each k p)) in
-    let kept : (k i : ℕ) → k < 4 → (n ≡ i → ⊥) → getD (laneOf 68 k w₂) i 0 ≡ getD (laneOf 68 k w₁) i 0 =
-    (λ k i p o. at k i p ∙ getD-set-other (laneOf 68 k w₁) n i (raised x n w₁ k) 0 (λ z. o (sym z))) in
-    record {
-      done = λ k i p l.
-          by-test (ltb i n)
-          (λ t. let b : i < n = ltb-true i n t in
-          kept k i p (λ z. omega arith) ∙ added .done k i p b)
-          (λ t. let b : n ≤ i = ltb-false i n t in
-          let i-is : i ≡ n = omega arith in
-          let old : getD w₁ (4 * n + k) 0 ≡ getD (laneOf 68 k w) n 0 = sym (lane-get 68 k w₁ n (omega arith)) ∙ added .left k n p (omega arith) in
-          rw i-is (at k n p ∙ getD-set-same (laneOf 68 k w₁) n (raised x n w₁ k) 0 (rw (length-lane 68 k w₁) (omega arith)) ∙ rw (old, e)));
-      left = λ k i p l. kept k i p (λ z. omega arith) ∙ added .left k i p (omega arith);
-    }
-
--- words that are a block's are its words
-pub words-are : (n : ℕ) (s m : List ℕ) → n ≤ length s → ((i : ℕ) → i < n → getD s i 0 ≡ beAt 4 m (4 * i)) → take n s ≡ wordsAt n m 0
-unfolding wordsAt
-words-are zero s m h e = refl
-words-are (suc n) s m h e = take-suc s n 0 (omega arith) ∙ rw (words-are n s m (omega arith) (λ i l. e i (omega arith)), e n (omega arith), zero-add (4 * n))
 
 -- ---- the registers
 

@@ -1,2 +1,4 @@
 -- Four SM3 hashes side by side.
+pub mod LaneLaws
+pub mod MessageLaws
 pub mod FourLaws

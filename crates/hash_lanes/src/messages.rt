@@ -7,7 +7,9 @@ ghost use mathlib.Core.Path.{_≡_};
 ghost use Prim.Native.Nat.{_+_, _*_, _≤_, _<_};
 ghost use lib.ListN.{length, set};
 ghost use Rattle.sm3.specs.Sm3.{nextWord};
-ghost use Rattle.hash_lanes.specs.FourLaws.{laneOf, Grew, Across, among, raised, Added};
+ghost use Rattle.hash_lanes.specs.LaneLaws.{laneOf};
+ghost use Rattle.hash_lanes.specs.MessageLaws.{Across, among, raised, Added};
+ghost use Rattle.hash_lanes.specs.FourLaws.{Grew};
 
 // W_j of message l from the words before it.
 fn next_word(w: &[u32], j: usize, l: usize) -> u32

@@ -13,7 +13,8 @@ ghost use Prim.Native.Nat.{_+_, _≤_, _<_};
 ghost use lib.ListN.{length};
 ghost use Rattle.sm3.specs.Sm3.{round};
 ghost use Rattle.sm3.specs.Sm3Laws.{constants};
-ghost use Rattle.hash_lanes.specs.FourLaws.{laneOf, Stepped, Moved, AllReached};
+ghost use Rattle.hash_lanes.specs.LaneLaws.{laneOf};
+ghost use Rattle.hash_lanes.specs.FourLaws.{Stepped, Moved, AllReached};
 
 // One of the rounds 0 to 15 of message l.
 fn early_round(r: Registers, j: usize, l: usize, w: &[u32], t: &[u32]) -> Registers

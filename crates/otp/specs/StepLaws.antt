@@ -5,19 +5,18 @@ use mathlib.Core.Bool.{Bool, true, false, cond}
 use mathlib.Core.List.{List, [], _∷_, _++_, append-assoc, append-nil}
 use native.Mathlib.Nat.{zero-add, add-zero, add-comm, mod-eq-of-lt}
 use native.Mathlib.Omega.{arith}
-use borrow.Author.Tests.{ltb-true, ltb-false}
-use lib.Dec.{ltb}
-use lib.ListN.{length, getD, take, drop, replicate, length-append, length-replicate, replicate-append-replicate, List·getD-eq-default}
-use Rattle.words.specs.ListsLaws.{by-test}
+use lib.ListN.{length, getD, take, drop, replicate, length-append, length-replicate, replicate-append-replicate}
 use Rattle.words.specs.Bytes.{beAt, beBytes, put}
 use Rattle.words.specs.BytesLaws.{AreBytes, length-beBytes, beBytes-split, beBytes-mod, beAt-lt}
 use Rattle.words.specs.PutLaws.{put-nothing}
-use Rattle.words.specs.SumLaws.{zero-get, bytes-zeros, over-zeros, beAt-sum}
+use Rattle.words.specs.SumLaws.{bytes-zeros, over-zeros, beAt-sum}
 use Rattle.words.specs.SwapLaws.{bytes-append, bytes-beBytes}
 use Rattle.sm3.specs.Sm3.{zerosAfter, padded, wordsAt}
 use Rattle.sm3.specs.Sm3Laws.{wordTotal, words-append, length-padded}
 use Rattle.sm3.specs.PaddingLaws.{lastBlocks, last-blocks-one, last-blocks-fill}
-use Rattle.hash_lanes.specs.FourLaws.{laneOf, length-lane, lane-get, laneSum, laneSums, among, among-is, Across, across-same, Added, words-are, one-block}
+use Rattle.hash_lanes.specs.LaneLaws.{laneOf, length-lane, lane-zeros}
+use Rattle.hash_lanes.specs.MessageLaws.{among, among-is, Across, across-same, Added, words-are}
+use Rattle.hash_lanes.specs.FourLaws.{laneSum, laneSums, one-block}
 use Rattle.otp.specs.Password.{factorBytes, idOf, filled, cut}
 use Rattle.otp.specs.StepCuts.{stepId, hashedCut, cutsFrom}
 use Rattle.otp.specs.StepCutsLaws.{four-cuts}
@@ -127,12 +126,6 @@ module _ (key : List ℕ) (timed : Bool) (s : ℕ) (k : length key ≤ 32) where
   lane-cut l w e =
       let size = message-size in
       rw (e ∙ message-words) (ap wordTotal (one-block message (omega arith)) ∙ sym (cut-hash message))
-
-lane-zeros : (l n i : ℕ) → getD {A = ℕ} (laneOf 68 l (replicate n 0)) i 0 ≡ 0
-lane-zeros l n i =
-    by-test (ltb i 68)
-    (λ t. lane-get 68 l (replicate n 0) i (ltb-true i 68 t) ∙ zero-get n (4 * i + l))
-    (λ t. List·getD-eq-default (laneOf 68 l (replicate n 0)) 0 (rw (length-lane 68 l (replicate n 0)) (ltb-false i 68 t)))
 
 padding-byte : AreBytes (0x80 ∷ [])
 unfolding beBytes

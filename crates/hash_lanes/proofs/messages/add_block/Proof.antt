@@ -3,7 +3,7 @@ use Prim.Native.Nat.{_≤_, _-_}
 use mathlib.Core.Path.{_≡_, sym, _∙_}
 use native.Mathlib.Omega.{arith}
 use lib.ListN.{length}
-use Rattle.hash_lanes.specs.FourLaws.{Added, added-none, added-more}
+use Rattle.hash_lanes.specs.MessageLaws.{Added, added-none, added-more}
 use Rattle.hash_lanes.proofs.messages.add_block.Statement.{statement}
 use Rattle.hash_lanes.proofs.messages.add_block.Tie as tie
 

@@ -1,5 +1,5 @@
 use borrow.Author.Needs.{needs}
-use Rattle.hash_lanes.specs.FourLaws.{raised-four}
+use Rattle.hash_lanes.specs.MessageLaws.{raised-four}
 use Rattle.hash_lanes.proofs.messages.add_word.Statement.{statement}
 use Rattle.hash_lanes.proofs.messages.add_word.Tie as tie
 

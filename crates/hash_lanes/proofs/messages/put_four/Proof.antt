@@ -2,7 +2,7 @@ use borrow.Author.Needs.{needs}
 use native.Mathlib.Omega.{arith}
 use mathlib.Core.Path.{refl}
 use lib.ListN.{length-set}
-use Rattle.hash_lanes.specs.FourLaws.{across-four}
+use Rattle.hash_lanes.specs.MessageLaws.{across-four}
 use Rattle.hash_lanes.proofs.messages.put_four.Statement.{statement}
 use Rattle.hash_lanes.proofs.messages.put_four.Tie as tie
 
