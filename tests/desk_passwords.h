@@ -3,10 +3,7 @@
 #define DESK_PASSWORDS_H
 
 #include "desk_reference.h"
-#include "window_cases.h"
-
-typedef void token_maker(struct window_call *);
-typedef int typist(struct window_call *);
+#include "window_typing.h"
 
 // The last three may be bad arguments.
 enum sort {

@@ -3,6 +3,7 @@
 #define ROW_CASES_H
 
 #include "desk_passwords.h"
+#include "window_tokens.h"
 
 // A sync of either window counts as a call of its own.
 enum { SYNC_MEDIUM = CALL_SYNC, SYNC_LARGE = CALLS, VARIANTS };

@@ -2,7 +2,8 @@
 #ifndef WINDOW_TWINS_H
 #define WINDOW_TWINS_H
 
-#include "window_cases.h"
+#include "window_tokens.h"
+#include "window_typing.h"
 
 // So near to each other that one window of the token's has both and the step behind them.
 struct twins {

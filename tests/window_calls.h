@@ -1,0 +1,67 @@
+// The check through the C interface, compared with the one of window_reference.h: the code, the step, and not a byte more.
+#ifndef WINDOW_CALLS_H
+#define WINDOW_CALLS_H
+
+#include "lending.h"
+#include "window_answers.h"
+#include "window_reference.h"
+#include "window_tokens.h"
+#include "window_typing.h"
+
+// ---- calls
+
+static inline void make_call(struct window_call *call, token_maker *make, typist *type)
+{
+    do
+        make(call);
+    while (!type(call));
+}
+
+// All that is read in buffers of its own length, so that valgrind sees a read past it.
+static inline uint16_t run(const struct window_call *call)
+{
+    uint8_t *key = copy_of(call->key, call->key_len), *challenge = copy_of(call->challenge, call->challenge_len),
+            *presented = copy_of(call->presented.bytes, call->presented.len),
+            *following = copy_of(call->following.bytes, call->following.len);
+    lend();
+    uint16_t code = dl_check(call->kind, call->algorithm, call->digits, call->period, call->next, call->offset, call->now,
+                             call->size, key, call->key_len, challenge, call->challenge_len, presented,
+                             call->presented.len, following, call->following.len, lent_long_words, call->step_len);
+    free(key);
+    free(challenge);
+    free(presented);
+    free(following);
+    count_answer(code);
+    return code;
+}
+
+// ---- comparison
+
+static const struct window_answer used = {DL_USED, 0}, wrong = {DL_WRONG, 0}, bad_argument = {DL_BAD_ARGUMENT, 0};
+
+static inline struct window_answer done(int64_t step)
+{
+    return (struct window_answer){DL_DONE, (uint64_t)step};
+}
+
+// The code, the step with DL_DONE, and not a byte more.
+static inline int answered(uint16_t code, struct window_answer answer)
+{
+    return answer.code == DL_DONE ? gave(code, &answer.step, sizeof answer.step) : turned_down(code, answer.code);
+}
+
+static inline void expect(const struct window_call *call, struct window_answer answer)
+{
+    uint16_t code = run(call);
+    check(answered(code, answer), "dl_check, kind %d, algorithm %d, digits %d, period %d, next %" PRIu64 ", offset %d, now %" PRIu64
+          ", size %d, lengths %zu %zu %zu %zu %zu: %04x, not %04x %" PRIu64, call->kind, call->algorithm, call->digits,
+          call->period, call->next, call->offset, call->now, call->size, call->key_len, call->challenge_len,
+          call->presented.len, call->following.len, call->step_len, code, answer.code, answer.step);
+}
+
+static inline void compare(const struct window_call *call)
+{
+    expect(call, window_check(call));
+}
+
+#endif
