@@ -3,4 +3,3 @@ pub mod Stored
 pub mod Checked
 pub mod DeskLeft
 pub mod DeskLeftLaws
-pub mod CopyLaws

@@ -5,6 +5,8 @@ pub mod IdLaws
 pub mod ChainLaws
 pub mod StepCuts
 pub mod StepCutsLaws
+pub mod CutLists
+pub mod CutListsLaws
 pub mod Numbers
 pub mod NumbersLaws
 pub mod HashedLaws

@@ -2,8 +2,9 @@
 mod arguments;
 mod chain;
 mod cut;
-pub mod cuts;
+mod cuts;
 mod id;
+pub mod lists;
 pub mod number;
 mod once;
 pub mod prepared;

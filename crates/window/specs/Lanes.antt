@@ -3,12 +3,11 @@ use Prim.Native.Nat.{ℕ, _+_, _-_, _%_, _^_, _≤_, _<_, min}
 use mathlib.Core.Path.{_≡_}
 use mathlib.Core.Bool.{Bool, true, false, cond, not, _&&_, _||_}
 use mathlib.Core.List.{List, [], _∷_}
-use lib.Dec.{eqb, leb}
+use lib.Dec.{eqb}
 use lib.ListN.{length, getD, drop}
 use Rattle.otp.specs.Numbers.{numberOf}
-use Rattle.otp.specs.Password.{algorithmSm3, keyed, filled, cut}
-use Rattle.otp.specs.ChainLaws.{prepared}
-use Rattle.otp.specs.StepCuts.{stepId, cutsFrom}
+use Rattle.otp.specs.StepCuts.{cutsFrom}
+use Rattle.otp.specs.CutLists.{stepCut, firstWidth}
 use Rattle.window.specs.declared.Rule.{Rule}
 use Rattle.window.specs.declared.goal.Goal.{Goal}
 use Rattle.window.specs.declared.parts.Part.{Part}
@@ -30,8 +29,8 @@ unfoldable pub hits : Goal → ℕ → ℕ → Bool
 hits goal x y = eqb (y % goal .modulus) (goal .last) && (not (goal .pair) || eqb (x % goal .modulus) (goal .before))
 
 -- the cut of a token's step, without a challenge
-unfoldable pub cutAt : Rule → List ℕ → ℕ → ℕ
-cutAt rule key s = cut (keyed (rule .algorithm) key (filled (stepId (eqb (rule .kind) timeToken) s)))
+abbrev pub cutAt : Rule → List ℕ → ℕ → ℕ
+cutAt rule key = stepCut (rule .algorithm) key (eqb (rule .kind) timeToken)
 
 -- step a is to be accepted, by the cut of each step
 unfoldable pub laneTest : Goal → (ℕ → ℕ) → ℕ → Bool
@@ -60,25 +59,15 @@ partOf goal ahead before cuts s end =
       next = s + (length cuts - ahead);
     }
 
--- how many cuts are made at once, by how many are left: four by SM3, or one
-unfoldable pub hashedWidth : ℕ → ℕ
-hashedWidth left = cond (eqb left 1) 1 4
+-- the likeliest step goes alone, unless a pair asks for two
+abbrev pub goesAlone : Goal → Bool → Bool
+goesAlone goal likely = likely && not (goal .pair)
 
--- five by SM4, or three
-unfoldable pub keyedWidth : ℕ → ℕ
-keyedWidth left = cond (leb left 3) 3 5
-
-abbrev pub width : ℕ → ℕ → ℕ
-width algorithm left = cond (eqb algorithm algorithmSm3) (hashedWidth left) (keyedWidth left)
-
--- of a search's first part: one where the step is the likeliest and no pair is searched; by SM4 else three, with the key schedule
-unfoldable pub firstWidth : Goal → ℕ → Bool → ℕ → ℕ
-firstWidth goal algorithm likely left = cond (likely && not (goal .pair)) 1 (cond (eqb algorithm algorithmSm3) (hashedWidth left) 3)
-
+-- the first part of a search
 unfoldable pub firstPart : Goal → Rule → List ℕ → Bool → ℕ → ℕ → Part
 firstPart goal rule key likely first end =
     let start = first - aheadBy goal in
-    partOf goal (aheadBy goal) 0 (cutsFrom (cutAt rule key) (firstWidth goal (rule .algorithm) likely (end - start)) start) first end
+    partOf goal (aheadBy goal) 0 (cutsFrom (cutAt rule key) (firstWidth (rule .algorithm) (goesAlone goal likely) (end - start)) start) first end
 
 -- a part begins at s, or with the step before, and has a step
 pub record Within (ahead s end : ℕ) : Type 0 where
@@ -86,7 +75,3 @@ pub record Within (ahead s end : ℕ) : Type 0 where
   pub begun : ahead ≤ s
   pub some : s < end
   pub small : end ≤ 2 ^ 62
-
--- SM4 has its round keys
-abbrev pub Keyed : Rule → List ℕ → List ℕ → Type 0
-Keyed rule key keys = (rule .algorithm ≡ algorithmSm3 → ⊥) → keys ≡ prepared 4 key

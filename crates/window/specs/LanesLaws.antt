@@ -5,42 +5,41 @@ use mathlib.Core.Bool.{Bool, true, false, not, _&&_, _||_}
 use mathlib.Core.Logic.{⊎-elim}
 use mathlib.Core.List.{List, [], _∷_}
 use mathlib.Core.Option.{Option, none, some}
-use native.Mathlib.Nat.{add-zero, mod-lt, zero-lt-suc}
+use native.Mathlib.Nat.{add-zero, sub-zero, mod-lt, zero-lt-suc}
 use native.Mathlib.Numerals.{add-one}
 use native.Mathlib.Omega.{arith}
-use borrow.Author.Tests.{eq-eqb, ne-eqb, eqb-true, eqb-false, le-leb, lt-leb, not-true}
-use lib.Dec.{eqb, leb}
+use borrow.Author.Tests.{eq-eqb, ne-eqb, eqb-true, eqb-false, not-true}
+use lib.Dec.{eqb}
 use lib.ListN.{length, getD, take, drop, length-drop}
-use lib.Seq.{take-all}
+use lib.Seq.{take-all, length-take-le}
 use Rattle.words.specs.ListsLaws.{by-test, and-true}
 use Rattle.words.specs.Tables.{and-left, and-right}
-use Rattle.otp.specs.Password.{algorithmSm3, filled, cut, shown, passwordOf}
-use Rattle.otp.specs.PasswordLaws.{keyed-hashed, keyed-chained}
-use Rattle.otp.specs.ChainLaws.{prepared}
+use Rattle.otp.specs.Password.{cut, shown, passwordOf}
 use Rattle.otp.specs.Numbers.{numberOf}
 use Rattle.otp.specs.NumbersLaws.{same-number}
-use Rattle.otp.specs.StepCuts.{stepId, hashedCut, cutBy, cutsFrom}
-use Rattle.otp.specs.StepCutsLaws.{step-cut, length-cutsFrom, cutsFrom-at, same-cuts}
+use Rattle.otp.specs.StepCuts.{stepId, cutsFrom}
+use Rattle.otp.specs.StepCutsLaws.{length-cutsFrom, cutsFrom-at}
+use Rattle.otp.specs.CutLists.{stepCut, width, firstWidth}
+use Rattle.otp.specs.CutListsLaws.{width-room, first-room}
 use Rattle.window.specs.declared.Rule.{Rule}
 use Rattle.window.specs.declared.Step.{Step}
 use Rattle.window.specs.declared.search.Found.{Found}
 use Rattle.window.specs.declared.search.Found.the-variants.{At, Nowhere}
 use Rattle.window.specs.declared.goal.Goal.{Goal}
 use Rattle.window.specs.declared.parts.Part.{Part}
-use Rattle.window.specs.Window.{timeToken}
 use Rattle.window.specs.Check.{orElse}
 use Rattle.window.specs.CheckLaws.{sweep, order}
 use Rattle.window.specs.PasswordAt.{passwordAt, hasPassword}
 use Rattle.window.specs.PasswordAtLaws.{matchesAt, countsRight}
 use Rattle.window.specs.SearchLaws.{foundOf, sweep-same}
-use Rattle.window.specs.Lanes.{goalOf, aheadBy, hits, cutAt, laneTest, listTest, priorOf, Prior, partOf, hashedWidth, keyedWidth, width, Within, firstWidth, firstPart}
+use Rattle.window.specs.Lanes.{goalOf, aheadBy, hits, cutAt, laneTest, listTest, priorOf, Prior, partOf, Within, goesAlone, firstPart}
 
 -- ---- numbers
 
 module _ (rule : Rule) (key : List ℕ) where
   -- a step has a password exactly if its cut leaves the password's number
   has-number : (presented : List ℕ) (s : ℕ) → length presented ≡ rule .digits → hasPassword rule key [] presented s ≡ eqb (cutAt rule key s % 10 ^ rule .digits) (numberOf presented)
-  unfolding hasPassword passwordAt passwordOf shown cutAt stepId cut
+  unfolding hasPassword passwordAt passwordOf shown stepCut stepId cut
   has-number presented s l = same-number presented (rule .digits) (cutAt rule key s) l (mod-lt _ (zero-lt-suc 4294967295))
 
   lane-matches : (presented following : List ℕ) (a : ℕ) → countsRight (rule .digits) presented following ≡ true
@@ -241,81 +240,18 @@ part-is goal ahead before cuts s end ep ef el =
     let w : take (length cuts - ahead) (drop ahead cuts) ≡ drop ahead cuts = take-all (length cuts - ahead) (drop ahead cuts) (omega (arith, l)) in
     rw (ef, el, w, l, ep)
 
--- the cuts that are made are as many as the width says
-pub part-cuts : (goal : Goal) (ahead before s end : ℕ) {w n : ℕ} (cutOf : ℕ → ℕ) {cuts : List ℕ} {r : Part} → w ≡ n → cuts ≡ cutsFrom cutOf n (s - ahead)
-    → r ≡ partOf goal ahead before cuts s end → r ≡ partOf goal ahead before (cutsFrom cutOf w (s - ahead)) s end
-part-cuts goal ahead before s end cutOf ew ec er = rw ew (er ∙ ap (λ (l : List ℕ). partOf goal ahead before l s end) ec)
+-- the cuts at the front of a buffer: enough, and those that the part is made of
+module _ (cuts : List ℕ) {n w : ℕ} (e : n ≡ w) where
+  pub made-room : {ahead : ℕ} → ahead < w → w ≤ 5 → length cuts ≡ 5 → (ahead < length (take (n - 0) cuts)) × (length (take (n - 0) cuts) ≤ 5)
+  made-room h m l = let k : length (take (n - 0) cuts) ≡ n = rw sub-zero (length-take-le n cuts (omega arith)) in (omega arith, omega arith)
 
-pub one-cut : (cutOf : ℕ → ℕ) (s : ℕ) {x : ℕ} → x ≡ cutOf s → x ∷ [] ≡ cutsFrom cutOf 1 s
-unfolding cutsFrom
-one-cut cutOf s e = rw e
-
--- ---- widths
-
-module _ (left : ℕ) where
-  pub hashed-one : left ≡ 1 → hashedWidth left ≡ 1
-  unfolding hashedWidth
-  hashed-one e = rw (eq-eqb left 1 e)
-
-  pub hashed-four : (left ≡ 1 → ⊥) → hashedWidth left ≡ 4
-  unfolding hashedWidth
-  hashed-four n = rw (ne-eqb left 1 n)
-
-  pub keyed-three : left ≤ 3 → keyedWidth left ≡ 3
-  unfolding keyedWidth
-  keyed-three l = rw (le-leb left 3 l)
-
-  pub keyed-five : 3 < left → keyedWidth left ≡ 5
-  unfolding keyedWidth
-  keyed-five l = rw (lt-leb left 3 l)
-
-  keyed-most : (3 ≤ keyedWidth left) × (keyedWidth left ≤ 5)
-  unfolding keyedWidth
-  keyed-most = by-test (leb left 3) (λ t. rw t (omega arith, omega arith)) (λ t. rw t (omega arith, omega arith))
+  pub part-made : (goal : Goal) (ahead before s end : ℕ) (cutOf : ℕ → ℕ) (start : ℕ) {r : Part} → take w cuts ≡ cutsFrom cutOf w start
+      → r ≡ partOf goal ahead before (take (n - 0) cuts) s end → r ≡ partOf goal ahead before (cutsFrom cutOf w start) s end
+  part-made goal ahead before s end cutOf start et er = er ∙ rw (sub-zero, e, et)
 
 -- a part goes on by at least a step
-pub width-room : (algorithm ahead s end : ℕ) → ahead ≤ 1 → ahead ≤ s → s < end → ahead < width algorithm (end - (s - ahead))
-width-room algorithm ahead s end la ls h =
-    let left = end - (s - ahead) in
-    by-test (eqb algorithm algorithmSm3)
-    (λ t. rw t (by-test (eqb left 1)
-    (λ u. let e = eqb-true left 1 u in let w = hashed-one left e in omega arith)
-    (λ u. let w = hashed-four left (eqb-false left 1 u) in omega arith)))
-    (λ t. let w = keyed-most left in rw t (omega arith))
-
--- ---- the cuts by either cipher
-
-module _ (rule : Rule) (key : List ℕ) {timed : Bool} (et : timed ≡ eqb (rule .kind) timeToken) where
-  pub hashed-cut-is : (s : ℕ) → rule .algorithm ≡ algorithmSm3 → hashedCut key timed s ≡ cutAt rule key s
-  unfolding cutAt
-  hashed-cut-is s a = rw et (keyed-hashed (rule .algorithm) key (filled (stepId (eqb (rule .kind) timeToken) s)) a)
-
-  pub keyed-cut-is : (s : ℕ) {keys : List ℕ} → (rule .algorithm ≡ algorithmSm3 → ⊥) → keys ≡ prepared 4 key → s < 2 ^ 64 → cutBy keys timed s ≡ cutAt rule key s
-  unfolding cutAt
-  keyed-cut-is s a ek h = rw (ek, et) (sym (step-cut key (eqb (rule .kind) timeToken) s h) ∙ keyed-chained (rule .algorithm) key (filled (stepId (eqb (rule .kind) timeToken) s)) a)
-
-  module _ (goal : Goal) (ahead before s end : ℕ) {r : Part} where
-    pub keyed-part : (n : ℕ) {keys cuts : List ℕ} → (rule .algorithm ≡ algorithmSm3 → ⊥) → keys ≡ prepared 4 key → s + n ≤ 2 ^ 64
-        → cuts ≡ cutsFrom (cutBy keys timed) n (s - ahead) → r ≡ partOf goal ahead before cuts s end
-        → r ≡ partOf goal ahead before (cutsFrom (cutAt rule key) n (s - ahead)) s end
-    keyed-part n {keys} a ek h ec er =
-        let e = same-cuts (cutBy keys timed) (cutAt rule key) n (s - ahead) (2 ^ 64) (omega arith) (λ x l. keyed-cut-is x a ek l) in
-        er ∙ ap (λ (l : List ℕ). partOf goal ahead before l s end) (ec ∙ e)
-
-    pub next-keyed : {keys : List ℕ} → (rule .algorithm ≡ algorithmSm3 → ⊥) → keys ≡ prepared 4 key → s ≤ 2 ^ 63
-        → r ≡ partOf goal ahead before (cutsFrom (cutBy keys timed) (keyedWidth (end - (s - ahead))) (s - ahead)) s end
-        → r ≡ partOf goal ahead before (cutsFrom (cutAt rule key) (width (rule .algorithm) (end - (s - ahead))) (s - ahead)) s end
-    next-keyed a ek h er =
-        let w = keyed-most (end - (s - ahead)) in
-        rw (ne-eqb (rule .algorithm) algorithmSm3 a) (keyed-part (keyedWidth (end - (s - ahead))) a ek (omega arith) refl er)
-
-    pub next-hashed : rule .algorithm ≡ algorithmSm3
-        → r ≡ partOf goal ahead before (cutsFrom (hashedCut key timed) (hashedWidth (end - (s - ahead))) (s - ahead)) s end
-        → r ≡ partOf goal ahead before (cutsFrom (cutAt rule key) (width (rule .algorithm) (end - (s - ahead))) (s - ahead)) s end
-    next-hashed a er =
-        let n = hashedWidth (end - (s - ahead)) in
-        let e = same-cuts (hashedCut key timed) (cutAt rule key) n (s - ahead) (s - ahead + n) (omega arith) (λ x l. hashed-cut-is x a) in
-        rw (eq-eqb (rule .algorithm) algorithmSm3 a) (er ∙ ap (λ (l : List ℕ). partOf goal ahead before l s end) e)
+pub part-room : (algorithm ahead s end : ℕ) → ahead ≤ 1 → ahead ≤ s → s < end → ahead < width algorithm (end - (s - ahead))
+part-room algorithm ahead s end la ls h = width-room algorithm (end - (s - ahead)) la (omega arith)
 
 -- ---- the first part
 
@@ -326,48 +262,30 @@ first-within goal b h m =
 
 module _ (goal : Goal) (likely : Bool) where
   -- the likeliest step is taken alone only if no pair is searched
-  pub alone-ahead : {ahead : ℕ} → ahead ≡ aheadBy goal → likely && not (goal .pair) ≡ true → ahead ≡ 0
+  pub alone-ahead : {ahead : ℕ} → ahead ≡ aheadBy goal → goesAlone goal likely ≡ true → ahead ≡ 0
   alone-ahead e t = let p = not-true (goal .pair) (and-right likely (not (goal .pair)) t) in e ∙ rw p
 
-  module _ (algorithm left : ℕ) where
-    pub first-one : likely && not (goal .pair) ≡ true → firstWidth goal algorithm likely left ≡ 1
-    unfolding firstWidth
-    first-one t = rw t
-
-    pub first-hashed : likely && not (goal .pair) ≡ false → algorithm ≡ algorithmSm3 → firstWidth goal algorithm likely left ≡ width algorithm left
-    unfolding firstWidth
-    first-hashed t a = rw (t, eq-eqb algorithm algorithmSm3 a)
-
-    pub first-three : likely && not (goal .pair) ≡ false → (algorithm ≡ algorithmSm3 → ⊥) → firstWidth goal algorithm likely left ≡ 3
-    unfolding firstWidth
-    first-three t a = rw (t, ne-eqb algorithm algorithmSm3 a)
-
 module _ (goal : Goal) (rule : Rule) (key : List ℕ) (likely : Bool) (first end : ℕ) {p : Part} where
-  pub first-part-is : {n ahead : ℕ} {cuts : List ℕ} → ahead ≡ aheadBy goal → firstWidth goal (rule .algorithm) likely (end - (first - ahead)) ≡ n
-      → cuts ≡ cutsFrom (cutAt rule key) n (first - ahead) → p ≡ partOf goal ahead 0 cuts first end → p ≡ firstPart goal rule key likely first end
+  pub first-part-is : {ahead : ℕ} → ahead ≡ aheadBy goal
+      → p ≡ partOf goal ahead 0 (cutsFrom (cutAt rule key) (firstWidth (rule .algorithm) (goesAlone goal likely) (end - (first - ahead))) (first - ahead)) first end
+      → p ≡ firstPart goal rule key likely first end
   unfolding firstPart
-  first-part-is {ahead = ahead} ea ew ec ep = rw (← ea) (part-cuts goal ahead 0 first end (cutAt rule key) ew ec ep)
+  first-part-is {ahead} ea ep = rw (← ea) ep
 
   -- what it gives, and that the search goes on behind it
   module _ (i : Within (aheadBy goal) first end) (ep : p ≡ firstPart goal rule key likely first end) where
-    first-room : aheadBy goal < firstWidth goal (rule .algorithm) likely (end - (first - aheadBy goal))
-    first-room =
-        let left = end - (first - aheadBy goal) in
-        by-test (likely && not (goal .pair))
-        (λ t. let z = alone-ahead goal likely refl t in let w = first-one goal likely (rule .algorithm) left t in omega arith)
-        (λ t. by-test (eqb (rule .algorithm) algorithmSm3)
-        (λ a. rw (first-hashed goal likely (rule .algorithm) left t (eqb-true (rule .algorithm) algorithmSm3 a)) (width-room (rule .algorithm) (aheadBy goal) first end (i .one) (i .begun) (i .some)))
-        (λ a. let w = first-three goal likely (rule .algorithm) left t (eqb-false (rule .algorithm) algorithmSm3 a) in omega (arith, i .one)))
+    pub room : aheadBy goal < firstWidth (rule .algorithm) (goesAlone goal likely) (end - (first - aheadBy goal))
+    room = first-room (rule .algorithm) (end - (first - aheadBy goal)) (goesAlone goal likely) (i .one) (omega (arith, i .begun, i .some, i .one)) (alone-ahead goal likely refl)
 
     pub first-last : p .last ≡ cutAt rule key (p .next - 1)
     unfolding firstPart
-    first-last = part-last goal (cutAt rule key) (aheadBy goal) 0 _ first end (i .one) (i .begun) first-room (ahead-prior goal (cutAt rule key) 0 first refl) ep
+    first-last = part-last goal (cutAt rule key) (aheadBy goal) 0 _ first end (i .one) (i .begun) room (ahead-prior goal (cutAt rule key) 0 first refl) ep
 
     pub first-hit : {a : Step} → p .found ≡ At a → At a ≡ foundOf (sweep (laneTest goal (cutAt rule key)) first (end - first))
     unfolding firstPart
-    first-hit h = part-hit goal (cutAt rule key) (aheadBy goal) 0 _ first end (i .one) (i .begun) first-room (ahead-prior goal (cutAt rule key) 0 first refl) ep h
+    first-hit h = part-hit goal (cutAt rule key) (aheadBy goal) 0 _ first end (i .one) (i .begun) room (ahead-prior goal (cutAt rule key) 0 first refl) ep h
 
     pub first-miss : p .found ≡ Nowhere
         → foundOf (sweep (laneTest goal (cutAt rule key)) (p .next) (end - p .next)) ≡ foundOf (sweep (laneTest goal (cutAt rule key)) first (end - first))
     unfolding firstPart
-    first-miss h = sym (part-miss goal (cutAt rule key) (aheadBy goal) 0 _ first end (i .one) (i .begun) first-room (ahead-prior goal (cutAt rule key) 0 first refl) ep h)
+    first-miss h = sym (part-miss goal (cutAt rule key) (aheadBy goal) 0 _ first end (i .one) (i .begun) room (ahead-prior goal (cutAt rule key) 0 first refl) ep h)

@@ -10,7 +10,8 @@ ghost use Prim.Native.Nat.{_-_, _^_, _≤_, _<_};
 ghost use lib.ListN.{length};
 ghost use Rattle.window.specs.CheckLaws.{sweep};
 ghost use Rattle.window.specs.SearchLaws.{foundOf};
-ghost use Rattle.window.specs.Lanes.{aheadBy, cutAt, laneTest, Prior, Keyed};
+ghost use Rattle.otp.specs.CutLists.{Keyed};
+ghost use Rattle.window.specs.Lanes.{aheadBy, cutAt, laneTest, Prior};
 
 // The search from first on, part by part.
 fn search_on(
@@ -25,7 +26,7 @@ fn search_on(
 ) -> Found
     requires { ⌜ 0 < goal .modulus ⌝ }
     requires { ⌜ length (now key) ≤ 32 ⌝ }
-    requires { ⌜ Keyed rule (now key) (now keys) ⌝ }
+    requires { ⌜ Keyed (rule .algorithm) (now key) (now keys) ⌝ }
     requires { ⌜ ahead ≤ 1 ⌝ }
     requires { ⌜ ahead ≤ first ⌝ }
     requires { ⌜ Prior goal (cutAt rule (now key)) ahead before first ⌝ }
@@ -67,7 +68,7 @@ pub(crate) fn search_first(
     requires { ⌜ aheadBy goal ≤ first ⌝ }
     requires { ⌜ end ≤ 2 ^ 62 ⌝ }
     ensures { λ r. ⌜ r ≡ foundOf (sweep (laneTest goal (cutAt rule (now (key .entry)))) first (end - first)) ⌝ }
-    ensures { λ _. ⌜ (first < end → Keyed rule (now (key .entry)) (now (keys .exit))) ⌝ }
+    ensures { λ _. ⌜ (first < end → Keyed (rule .algorithm) (now (key .entry)) (now (keys .exit))) ⌝ }
 {
     if end <= first {
         return Found::Nowhere;
@@ -91,7 +92,7 @@ pub(crate) fn search_again(
 ) -> Found
     requires { ⌜ 0 < goal .modulus ⌝ }
     requires { ⌜ length (now key) ≤ 32 ⌝ }
-    requires { ⌜ Keyed rule (now key) (now keys) ⌝ }
+    requires { ⌜ Keyed (rule .algorithm) (now key) (now keys) ⌝ }
     requires { ⌜ aheadBy goal ≤ first ⌝ }
     requires { ⌜ end ≤ 2 ^ 62 ⌝ }
     ensures { λ r. ⌜ r ≡ foundOf (sweep (laneTest goal (cutAt rule (now (key .entry)))) first (end - first)) ⌝ }

@@ -11,6 +11,7 @@ pub mod SwapLaws
 pub mod ByteBitsLaws
 pub mod Tables
 pub mod Codes
+pub mod CopyLaws
 pub mod Output
 pub mod OutputLaws
 pub mod Branches

@@ -1,7 +1,8 @@
-use Rattle.window.specs.LanesLaws.{width-room, part-next, part-last, part-hit, part-miss}
+use Rattle.window.specs.LanesLaws.{part-room, part-next, part-last, part-hit, part-miss}
 use Rattle.window.specs.SearchLaws.{sweep-end, foundOf}
 use Rattle.window.specs.CheckLaws.{sweep}
-use Rattle.window.specs.Lanes.{cutAt, laneTest, Prior, width}
+use Rattle.window.specs.Lanes.{cutAt, laneTest, Prior}
+use Rattle.otp.specs.CutLists.{width}
 use mathlib.Core.Path.{_≡_, refl, sym, _∙_}
 use Prim.Native.Nat.{_-_, _≤_}
 use native.Mathlib.Omega.{arith}
@@ -33,7 +34,7 @@ enum-told c = search needs
 loop-less : tie.Need-loop-less Inv-loop μ-loop
 loop-less c = let a = c .before .before .before .before .before .before .before .args in
     let l = c .before .before .before .before .loop in
-    let w = width-room (a .rule .algorithm) (l .lead) (l .s) (a .end) (l .inv .0) (l .inv .1 .0) (c .before .before .before .if1 .left) in
+    let w = part-room (a .rule .algorithm) (l .lead) (l .s) (a .end) (l .inv .0) (l .inv .1 .0) (c .before .before .before .if1 .left) in
     let n = part-next (a .goal) (cutAt (a .rule) (a .key .now)) (l .lead) (l .prior) (width (a .rule .algorithm) (a .end - (l .s - l .lead))) (l .s) (a .end) (l .inv .0) (l .inv .1 .0) w (l .inv .1 .1 .0) (c .before .before .next-part .ensures) in
     omega (arith, w, n, c .before .before .before .if1 .left)
 
@@ -42,7 +43,7 @@ loop-again c = let a = c .before .before .before .before .before .before .before
     let l = c .before .before .before .before .loop in
     let cutOf = cutAt (a .rule) (a .key .now) in
     let n = width (a .rule .algorithm) (a .end - (l .s - l .lead)) in
-    let w = width-room (a .rule .algorithm) (l .lead) (l .s) (a .end) (l .inv .0) (l .inv .1 .0) (c .before .before .before .if1 .left) in (
+    let w = part-room (a .rule .algorithm) (l .lead) (l .s) (a .end) (l .inv .0) (l .inv .1 .0) (c .before .before .before .if1 .left) in (
       omega arith,
       (
         omega arith,
@@ -61,7 +62,7 @@ returns c = let a = c .before .before .before .before .args in
 returns-2 : tie.Need-returns-2 Inv-loop μ-loop
 returns-2 c = let a = c .before .before .before .before .before .before .before .before .args in
     let l = c .before .before .before .before .before .loop in
-    let w = width-room (a .rule .algorithm) (l .lead) (l .s) (a .end) (l .inv .0) (l .inv .1 .0) (c .before .before .before .before .if1 .left) in
+    let w = part-room (a .rule .algorithm) (l .lead) (l .s) (a .end) (l .inv .0) (l .inv .1 .0) (c .before .before .before .before .if1 .left) in
     part-hit (a .goal) (cutAt (a .rule) (a .key .now)) (l .lead) (l .prior) (width (a .rule .algorithm) (a .end - (l .s - l .lead))) (l .s) (a .end) (l .inv .0) (l .inv .1 .0) w (l .inv .1 .1 .0) (c .before .before .before .next-part .ensures) (c .before .found .given .1) ∙ l .inv .1 .1 .1
 
 pub search-on-spec : {M : Type 1} → statement M

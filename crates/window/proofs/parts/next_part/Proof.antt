@@ -1,28 +1,67 @@
-use Rattle.window.specs.LanesLaws.{next-keyed, next-hashed}
-use Rattle.otp.specs.ChainLaws.{length-prepared}
-use lib.ListN.{length}
-use mathlib.Core.Path.{refl, ap, _∙_}
-use native.Mathlib.Omega.{arith}
 use borrow.Author.Needs.{needs}
+use Prim.Native.Nat.{_-_}
+use mathlib.Core.Path.{refl}
+use native.Mathlib.Omega.{arith}
+use Rattle.otp.specs.CutListsLaws.{width-most}
+use Rattle.window.specs.Lanes.{cutAt}
+use Rattle.window.specs.LanesLaws.{part-room, made-room, part-made}
 use Rattle.window.proofs.parts.next_part.Statement.{statement}
 use Rattle.window.proofs.parts.next_part.Tie as tie
 
-hashed-part-requires : tie.Need-hashed-part-requires
-hashed-part-requires c κs = search needs
+sub-start : tie.Need-sub-start
+sub-start c = search needs
+
+sub-put-cuts : tie.Need-sub-put-cuts
+sub-put-cuts c = search needs
+
+slice-aggregate-put-cuts : tie.Need-slice-aggregate-put-cuts
+slice-aggregate-put-cuts c = search needs
+
+put-cuts-requires : tie.Need-put-cuts-requires
+put-cuts-requires c κs =
+    let given = c .before .before .before .before .pre in
+    let within = given .1 .1 .1 in
+    (given .1 .0, (given .1 .1 .0, (omega (arith, within .some, within .small), refl)))
+
+sub-part-of : tie.Need-sub-part-of
+sub-part-of c = search needs
+
+part-part-of-start : tie.Need-part-part-of-start
+part-part-of-start c = search needs
+
+part-part-of-end : tie.Need-part-part-of-end
+part-part-of-end c =
+    let a = c .before .before .before .before .before .before .before .args in
+    let most = width-most (a .rule .algorithm) (a .end - (a .s - a .ahead)) in
+    let made = c .before .before .put-cuts in
+    omega (arith, most, made .ensures .0, made .kept .1 .1 .1 .1 .1 .1 .0)
+
+part-of-requires : tie.Need-part-of-requires
+part-of-requires c κs =
+    let start = c .before .before .before .before .before .before .before .before in
+    let a = start .args in
+    let within = start .pre .1 .1 .1 in
+    let made = c .before .before .before .put-cuts in
+    let room = part-room (a .rule .algorithm) (a .ahead) (a .s) (a .end) (within .one) (within .begun) (within .some) in
+    let fits = made-room _ (made .ensures .0) room (width-most (a .rule .algorithm) (a .end - (a .s - a .ahead))) (made .kept .1 .1 .1 .1 .1 .1 .0) in
+    (start .pre .0, (fits .0, (fits .1, omega (arith, within .some, within .small))))
 
 returns : tie.Need-returns
-returns c = let a = c .before .before .before .before .before .before .args in
-    next-hashed (a .rule) (a .key .now) refl (a .goal) (a .ahead) (a .before) (a .s) (a .end) (c .before .if1 .taken) (c .hashed-part .ensures)
-
-keyed-part-requires : tie.Need-keyed-part-requires
-keyed-part-requires c κs = let given = c .before .before .before .before .before .pre in
-    (given .0, (ap length (given .1 .1 .0 (c .if1 .left)) ∙ length-prepared 4 (c .before .before .before .before .before .args .key .now), given .1 .1 .1))
-
-returns-2 : tie.Need-returns-2
-returns-2 c = let a = c .before .before .before .before .before .before .args in
-    let given = c .before .before .before .before .before .before .pre in
-    next-keyed (a .rule) (a .key .now) refl (a .goal) (a .ahead) (a .before) (a .s) (a .end) (c .before .if1 .left) (given .1 .1 .0 (c .before .if1 .left)) (omega (arith, given .1 .1 .1 .some, given .1 .1 .1 .small)) (c .keyed-part .ensures)
+returns c =
+    let a = c .before .before .before .before .before .before .before .before .before .args in
+    let made = c .before .before .before .before .put-cuts .ensures in
+    part-made _ (made .0) (a .goal) (a .ahead) (a .before) (a .s) (a .end) (cutAt (a .rule) (a .key .now)) (a .s - a .ahead) (made .1) (c .part-of .ensures)
 
 pub next-part-spec : {M : Type 1} → statement M
 next-part-spec =
-    tie.close (tie.spec hashed-part-requires returns keyed-part-requires returns-2)
+    tie.close
+    (tie.spec
+    sub-start
+    sub-put-cuts
+    slice-aggregate-put-cuts
+    put-cuts-requires
+    sub-part-of
+    part-part-of-start
+    part-part-of-end
+    part-of-requires
+    returns)

@@ -5,9 +5,9 @@ use borrow.Author.Needs.{needs}
 use native.Mathlib.Omega.{arith}
 use lib.ListN.{length, take, drop, length-append, length-drop}
 use lib.Seq.{length-take-le}
-use Rattle.capi.specs.CopyLaws.{copy-more, copy-end}
-use Rattle.capi.proofs.store.copy_words.Statement.{statement}
-use Rattle.capi.proofs.store.copy_words.Tie as tie
+use Rattle.words.specs.CopyLaws.{copy-more, copy-end}
+use Rattle.words.proofs.word.copy_words.Statement.{statement}
+use Rattle.words.proofs.word.copy_words.Tie as tie
 
 abbrev Inv-loop : tie.InvT-loop
 Inv-loop result out₀ i₀ out i = (i ≤ length result) × (out ≡ take i result ++ drop i out₀)
