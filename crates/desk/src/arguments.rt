@@ -1,5 +1,6 @@
 // Whether arguments are in range (document 01, "What a turned-down call says", 9005).
 use otp::challenge_ok;
+use row::ROW_BYTES;
 use window::CLOCKS;
 use window::Seconds;
 use words::bytes::within;
@@ -7,9 +8,7 @@ ghost use mathlib.Core.Path.{_≡_};
 ghost use mathlib.Core.Bool.{_&&_};
 ghost use Rattle.desk.specs.Requests.{tableOk, clockOk, passwordOk, challengeGiven};
 
-const ROW_BYTES: usize = 96;
-
-const MOST_ROWS: usize = 256;
+pub const MOST_ROWS: usize = 256;
 
 // Whether the table has 1 to 256 rows, and the clock reading is below 2^40.
 pub(crate) fn lent_ok(table: &[u8], clock: Seconds) -> bool

@@ -6,6 +6,7 @@ mod naming;
 mod plain_calls;
 mod querying;
 
+pub use arguments::MOST_ROWS;
 pub use checked_calls::activate;
 pub use checked_calls::challenge_login;
 pub use checked_calls::login;

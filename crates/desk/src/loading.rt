@@ -1,6 +1,7 @@
 // The call `load`.
 use crate::Particulars;
 use crate::arguments::table_ok;
+use row::KEY_BYTES;
 use row::Place;
 use row::Row;
 use row::find_empty;
@@ -10,6 +11,7 @@ use row::write_row;
 use token::Answer;
 use token::Call;
 use token::Content;
+use token::NOT_ACTIVATED;
 use token::Refusal;
 use window::FARTHEST;
 use window::Offset;
@@ -22,10 +24,6 @@ ghost use lib.ListN.{length};
 ghost use Rattle.window.specs.PasswordAt.{passwordAt};
 ghost use Rattle.desk.specs.Requests.{DeskCall, loadedRow, loadOk};
 ghost use Rattle.desk.specs.Desk.{deskAfter};
-
-const NOT_ACTIVATED: u8 = 1;
-
-const LONGEST_KEY: usize = 32;
 
 // The row that a load sets: not activated; next, d, errors and times are 0.
 fn loaded_row(particulars: Particulars, key: &[u8]) -> Row
@@ -58,7 +56,7 @@ fn loaded_row(particulars: Particulars, key: &[u8]) -> Row
 fn load_ok(particulars: Particulars, key: &[u8]) -> bool
     ensures { λ r. ⌜ r ≡ loadOk particulars (now (key .entry)) ⌝ }
 {
-    if LONGEST_KEY < key.len() {
+    if KEY_BYTES < key.len() {
         return false;
     }
     numbers_ok(loaded_row(particulars, key))

@@ -1,12 +1,12 @@
 // The table in a file. The answers are kept aside until the new table is on disk under the file's name: a crash leaves the old table or the new one,
 // and no answer is printed whose table is not on disk.
 use crate::input::serve_input;
-use crate::rows::ROW_BYTES;
 use crate::serving::Stage;
 use libc::PATH_MAX;
 use libc::SEEK_SET;
 use libc::STDOUT_FILENO;
 use lines::put;
+use row::ROW_BYTES;
 ghost use mathlib.Core.Path.{_≡_};
 ghost use Prim.Native.Nat.{_+_, _≤_};
 ghost use lib.ListN.{length};

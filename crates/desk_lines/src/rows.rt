@@ -1,5 +1,7 @@
 // The lines `rows,N` and `table`.
+use desk::MOST_ROWS;
 use lines::LINE_FEED;
+use row::ROW_BYTES;
 use text::Number;
 use text::decimal;
 use text::hex_digit;
@@ -9,10 +11,6 @@ ghost use Prim.Native.Nat.{_+_, _*_, _≤_};
 ghost use lib.ListN.{length};
 ghost use Rattle.lines.specs.Lines.{Put};
 ghost use Rattle.desk_lines.specs.Script.{hexText, rowsText, rowsOf, orZero};
-
-pub(crate) const ROW_BYTES: usize = 96;
-
-const MOST_ROWS: u64 = 256;
 
 // N of a line `rows,N` that is right, and 0 of any other.
 pub(crate) fn rows_of(line: &[u8]) -> usize
@@ -29,10 +27,11 @@ pub(crate) fn rows_of(line: &[u8]) -> usize
     let Number::Value(n) = decimal(&line[5..line.len()]) else {
         return 0;
     };
-    if MOST_ROWS < n {
+    let rows = n as usize;
+    if MOST_ROWS < rows {
         return 0;
     }
-    n as usize
+    rows
 }
 
 // Puts the digits of bytes at at, and answers where they end.

@@ -1,10 +1,10 @@
 // What a line does to the table, and what it prints.
-use crate::rows::ROW_BYTES;
 use crate::rows::put_rows;
 use crate::rows::rows_of;
 use call_lines::serve_line;
 use lines::LINE_FEED;
 use lines::put;
+use row::ROW_BYTES;
 use row::clear;
 use words::bytes::same;
 ghost use mathlib.Core.Path.{_≡_};

@@ -1,7 +1,7 @@
 // The layout of a row (document 01, Part 4): where in the row each number stands, and how many bytes there are.
-pub(crate) const ROW_BYTES: usize = 96;
+pub const ROW_BYTES: usize = 96;
 
-pub(crate) const KEY_BYTES: usize = 32;
+pub const KEY_BYTES: usize = 32;
 
 pub(crate) const STATE: usize = 0;
 
@@ -21,7 +21,7 @@ pub(crate) const LENGTH: usize = 7;
 
 pub(crate) const SERIAL: usize = 8;
 
-pub(crate) const KEY: usize = 16;
+pub const KEY: usize = 16;
 
 pub(crate) const NEXT: usize = 48;
 

@@ -7,6 +7,9 @@ mod storing;
 
 pub use finding::find_empty;
 pub use finding::find_row;
+pub use layout::KEY;
+pub use layout::KEY_BYTES;
+pub use layout::ROW_BYTES;
 pub use ranges::numbers_ok;
 pub use reading::Place;
 pub use reading::RowRead;

@@ -1,9 +1,9 @@
 // The calls and Part 5's table of them.
 use crate::answers::Refusal;
 use crate::states::EMPTY;
-use crate::states::INACTIVE;
 use crate::states::LOCKED_BY_ERRORS;
 use crate::states::LOCKED_BY_HAND;
+use crate::states::NOT_ACTIVATED;
 use crate::states::READY;
 use crate::states::SUSPENDED;
 use crate::states::VOID;
@@ -42,7 +42,7 @@ pub(crate) fn allowed(call: Call, state: u8) -> bool
         Call::Load => state == EMPTY,
         Call::Login => state == READY,
         Call::ChallengeLogin => state == READY,
-        Call::Activate => state == INACTIVE,
+        Call::Activate => state == NOT_ACTIVATED,
         Call::Lock => state == READY,
         Call::Unlock => (state == LOCKED_BY_ERRORS) | (state == LOCKED_BY_HAND),
         Call::Suspend => (state == READY) | (state == LOCKED_BY_ERRORS) | (state == LOCKED_BY_HAND),
@@ -53,7 +53,7 @@ pub(crate) fn allowed(call: Call, state: u8) -> bool
         Call::SyncLarge => (state == READY)
             | (state == LOCKED_BY_ERRORS)
             | (state == LOCKED_BY_HAND),
-        Call::Void => (INACTIVE <= state) & (state <= SUSPENDED),
+        Call::Void => (NOT_ACTIVATED <= state) & (state <= SUSPENDED),
         Call::Query => true,
     }
 }
@@ -82,7 +82,7 @@ pub(crate) fn state_after(call: Call, state: u8) -> u8
     ensures { λ r. ⌜ r ≡ stateAfter call state ⌝ }
 {
     match call {
-        Call::Load => INACTIVE,
+        Call::Load => NOT_ACTIVATED,
         Call::Login => state,
         Call::ChallengeLogin => state,
         Call::Activate => READY,
@@ -185,7 +185,7 @@ pub(crate) fn state_refusal(state: u8) -> Refusal
     if state == SUSPENDED {
         return Refusal::Suspended;
     }
-    if state == INACTIVE {
+    if state == NOT_ACTIVATED {
         return Refusal::Inactive;
     }
     if state == VOID {

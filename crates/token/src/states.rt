@@ -17,7 +17,7 @@ ghost use Rattle.token.specs.StatesLaws.{Near};
 
 pub(crate) const EMPTY: u8 = 0;
 
-pub(crate) const INACTIVE: u8 = 1;
+pub const NOT_ACTIVATED: u8 = 1;
 
 pub(crate) const READY: u8 = 2;
 

@@ -5,6 +5,7 @@ use crate::calls::Call;
 use crate::calls::is_void;
 use crate::serving::query;
 use crate::serving::serve;
+use row::KEY;
 use row::RowRead;
 use row::read_row;
 use row::store_row;
@@ -19,8 +20,6 @@ ghost use Rattle.window.specs.PasswordAt.{passwordAt};
 ghost use Rattle.token.specs.Calls.{checkingOf};
 ghost use Rattle.token.specs.ServingLaws.{Fitting};
 ghost use Rattle.token.specs.OnTable.{wipes, servedAt, queriedAt};
-
-const KEY: usize = 16;
 
 // Whether the key goes: only a void's success zeroes it.
 fn wipes(answer: Answer) -> bool
