@@ -2,6 +2,7 @@
 use crate::Particulars;
 use crate::arguments::table_ok;
 use row::KEY_BYTES;
+use row::NOT_ACTIVATED;
 use row::Place;
 use row::Row;
 use row::find_empty;
@@ -11,7 +12,6 @@ use row::write_row;
 use token::Answer;
 use token::Call;
 use token::Content;
-use token::NOT_ACTIVATED;
 use token::Refusal;
 use window::FARTHEST;
 use window::Offset;

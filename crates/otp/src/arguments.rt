@@ -1,5 +1,7 @@
 // Whether the arguments are in range (document 01, Part 2).
 use crate::Factor;
+use crate::SM3;
+use crate::SM4;
 use words::bytes::within;
 ghost use mathlib.Core.Path.{_≡_};
 ghost use Rattle.otp.specs.Password.{isGiven, isBelow, challengeOk, argumentsOk};
@@ -41,7 +43,7 @@ pub fn arguments_ok(
     ensures { λ r. ⌜ r ≡ argumentsOk algorithm (now (key .entry)) time count (now (challenge .entry)) digits ⌝ }
 {
     let n = key.len();
-    ((algorithm == 3) | (algorithm == 4))
+    ((algorithm == SM3) | (algorithm == SM4))
         & ((16 <= n) & (n <= 32))
         & (is_given(time) | is_given(count))
         & is_below(0x1_0000_0000, count)

@@ -19,6 +19,11 @@ use words::codes::DONE;
 ghost use mathlib.Core.Path.{_≡_};
 ghost use Rattle.otp.specs.Password.{passwordAnswer};
 
+// The algorithms (document 01, Part 4).
+pub const SM3: u8 = 3;
+
+pub const SM4: u8 = 4;
+
 // A factor of the password, the time T or the event count C (GM/T 0021, 6.1): present with its number, or absent.
 pub enum Factor {
     Absent,

@@ -1,4 +1,5 @@
 // The cuts of consecutive steps without a challenge, by either algorithm: how many are made at once is decided here.
+use crate::SM3;
 use crate::cuts::few_cuts;
 use crate::cuts::first_cut;
 use crate::cuts::first_cuts;
@@ -14,8 +15,6 @@ ghost use Rattle.otp.specs.CutLists.{stepCut, hashedWidth, keyedWidth, w
 
 // The most cuts that are made at once.
 pub const MOST_CUTS: usize = 5;
-
-const SM3: u8 = 3;
 
 // Those of the steps from s on by SM3. One step that is left alone costs less than four side by side.
 fn put_hashed(key: &[u8], timed: bool, s: u64, left: u64, cuts: &mut [u32]) -> usize

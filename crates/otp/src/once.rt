@@ -1,5 +1,6 @@
 // The cut of the algorithm's output with a key that is used once.
 use crate::Factor;
+use crate::SM3;
 use crate::chain::chain;
 use crate::cut::cut_words;
 use crate::id::put_id;
@@ -36,7 +37,7 @@ pub(crate) fn truncated_once(
     requires { ⌜ argumentsOk algorithm (now key) time count (now challenge) digits ≡ true ⌝ }
     ensures { λ r. ⌜ r ≡ cut (keyed algorithm (now (key .entry)) (filled (idOf time count (now (challenge .entry))))) ⌝ }
 {
-    if algorithm == 3 {
+    if algorithm == SM3 {
         return hashed(key, time, count, challenge);
     }
     ciphered_once(key, time, count, challenge)

@@ -1,5 +1,7 @@
 // The password with a key prepared once for many, for the proved layers above: they require what those give.
 use crate::Factor;
+use crate::SM3;
+use crate::SM4;
 use crate::chain::chain;
 use crate::chain::words_of;
 use crate::cut::cut_words;
@@ -24,7 +26,7 @@ pub fn prepare(algorithm: u8, key: &[u8]) -> [u32; 32]
     ensures { λ r. ⌜ length r ≡ 32 ⌝ }
     ensures { λ r. ⌜ r ≡ prepared algorithm (now (key .entry)) ⌝ }
 {
-    if algorithm == 4 {
+    if algorithm == SM4 {
         return round_keys(&key[0..16]).words;
     }
     [0u32; 32]
@@ -74,7 +76,7 @@ fn truncated(
     requires { ⌜ now keys ≡ prepared algorithm (now key) ⌝ }
     ensures { λ r. ⌜ r ≡ cut (keyed algorithm (now (key .entry)) (filled (idOf time count (now (challenge .entry))))) ⌝ }
 {
-    if algorithm == 3 {
+    if algorithm == SM3 {
         return hashed(key, time, count, challenge);
     }
     ciphered(key, keys, time, count, challenge)

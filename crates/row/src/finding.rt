@@ -3,6 +3,7 @@ use crate::layout::ROW_BYTES;
 use crate::layout::SERIAL;
 use crate::layout::STATE;
 use crate::reading::Place;
+use crate::states::EMPTY;
 use words::bytes::le_eight;
 use words::bytes::swapped;
 ghost use mathlib.Core.Path.{_≡_};
@@ -32,8 +33,8 @@ fn passes(table: &[u8], wanted: Wanted, at: usize) -> bool
 {
     let state = table[at + STATE];
     match wanted {
-        Wanted::Serial(serial) => (state != 0) & serial_is(table, serial, at),
-        Wanted::Empty => state == 0,
+        Wanted::Serial(serial) => (state != EMPTY) & serial_is(table, serial, at),
+        Wanted::Empty => state == EMPTY,
     }
 }
 

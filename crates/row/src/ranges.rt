@@ -1,6 +1,10 @@
 // The ranges of a row's numbers (document 01, Part 4).
 use crate::Row;
 use crate::layout::KEY_BYTES;
+use crate::states::LOCKED_BY_ERRORS;
+use crate::states::VOID;
+use otp::SM3;
+use otp::SM4;
 use window::CLOCKS;
 use window::COUNTS;
 use window::FARTHEST;
@@ -44,9 +48,9 @@ pub fn numbers_ok(row: Row) -> bool
 {
     let rule = row.track.rule;
     let timed = rule.kind == TIME_TOKEN;
-    (row.state <= 6)
+    (row.state <= VOID)
         & (rule.kind <= 1)
-        & ((rule.algorithm == 3) | (rule.algorithm == 4))
+        & ((rule.algorithm == SM3) | (rule.algorithm == SM4))
         & ((6 <= rule.digits) & (rule.digits <= 10))
         & period_ok(timed, row.track.period)
         & ((1 <= row.limit) & (row.limit <= 10))
@@ -55,6 +59,6 @@ pub fn numbers_ok(row: Row) -> bool
         & offset_ok(timed, row.track.offset.0 as u64)
         & ((60 <= row.wait) & (row.wait <= 86400))
         & (row.expiry.0 <= CLOCKS)
-        & ((row.locked.0 < CLOCKS) & ((row.state == 3) | (row.locked.0 == 0)))
+        & ((row.locked.0 < CLOCKS) & ((row.state == LOCKED_BY_ERRORS) | (row.locked.0 == 0)))
         & (row.used.0 < CLOCKS)
 }

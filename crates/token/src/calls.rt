@@ -1,12 +1,12 @@
 // The calls and Part 5's table of them.
 use crate::answers::Refusal;
-use crate::states::EMPTY;
-use crate::states::LOCKED_BY_ERRORS;
-use crate::states::LOCKED_BY_HAND;
-use crate::states::NOT_ACTIVATED;
-use crate::states::READY;
-use crate::states::SUSPENDED;
-use crate::states::VOID;
+use row::EMPTY;
+use row::LOCKED_BY_ERRORS;
+use row::LOCKED_BY_HAND;
+use row::NOT_ACTIVATED;
+use row::READY;
+use row::SUSPENDED;
+use row::VOID;
 use window::Size;
 ghost use mathlib.Core.Path.{_≡_};
 ghost use Rattle.token.specs.Calls.{allowed, checkingOf, stateAfter, isLogin, isSync, isVoid, usedRefusal, wrongRefusal, stateRefusal};

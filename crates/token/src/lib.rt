@@ -16,6 +16,5 @@ pub use codes::number_of;
 pub use serving::Served;
 pub use serving::query;
 pub use serving::serve;
-pub use states::NOT_ACTIVATED;
 pub use table::query_at;
 pub use table::serve_at;

@@ -2,6 +2,8 @@
 use crate::calls::Call;
 use crate::calls::is_login;
 use crate::calls::state_after;
+use row::LOCKED_BY_ERRORS;
+use row::READY;
 use row::Row;
 use window::FARTHEST;
 use window::Offset;
@@ -14,20 +16,6 @@ ghost use mathlib.Core.Path.{_≡_};
 ghost use Rattle.window.specs.Window.{Sound};
 ghost use Rattle.token.specs.States.{changed, waitOver, waited, lockedAfter, moved, offsetAfter, trackAfter, accepted, errorsAfter, failed};
 ghost use Rattle.token.specs.StatesLaws.{Near};
-
-pub(crate) const EMPTY: u8 = 0;
-
-pub const NOT_ACTIVATED: u8 = 1;
-
-pub(crate) const READY: u8 = 2;
-
-pub(crate) const LOCKED_BY_ERRORS: u8 = 3;
-
-pub(crate) const LOCKED_BY_HAND: u8 = 4;
-
-pub(crate) const SUSPENDED: u8 = 5;
-
-pub(crate) const VOID: u8 = 6;
 
 const MOST_ERRORS: u8 = 255;
 
