@@ -36,19 +36,15 @@ module _ (left : ℕ) where
   unfolding keyedWidth
   keyed-five l = rw (lt-leb left 3 l)
 
-  hashed-most : hashedWidth left ≤ 4
-  unfolding hashedWidth
-  hashed-most = by-test (eqb left 1) (λ t. rw t (omega arith)) (λ t. rw t (omega arith))
-
   pub keyed-most : (3 ≤ keyedWidth left) × (keyedWidth left ≤ 5)
   unfolding keyedWidth
   keyed-most = by-test (leb left 3) (λ t. rw t (omega arith, omega arith)) (λ t. rw t (omega arith, omega arith))
 
-  hashed-room : {ahead : ℕ} → ahead ≤ 1 → ahead < left → ahead < hashedWidth left
-  hashed-room l h =
+  hashed-fits : {ahead : ℕ} → ahead ≤ 1 → ahead < left → (ahead < hashedWidth left) × (hashedWidth left ≤ 5)
+  hashed-fits l h =
       by-test (eqb left 1)
-      (λ t. let e = eqb-true left 1 t in let w = hashed-one e in omega arith)
-      (λ t. let w = hashed-four (eqb-false left 1 t) in omega arith)
+      (λ t. let e = eqb-true left 1 t in let w = hashed-one e in (omega arith, omega arith))
+      (λ t. let w = hashed-four (eqb-false left 1 t) in (omega arith, omega arith))
 
 module _ (algorithm left : ℕ) where
   pub width-hashed : algorithm ≡ algorithmSm3 → width algorithm left ≡ hashedWidth left
@@ -59,18 +55,12 @@ module _ (algorithm left : ℕ) where
   unfolding width
   width-keyed a = rw (ne-eqb algorithm algorithmSm3 a)
 
-  pub width-most : width algorithm left ≤ 5
-  width-most =
+  -- a list has the step before, where there is one, and at least a step more; a buffer of five holds it
+  pub width-fits : {n ahead : ℕ} → n ≡ width algorithm left → ahead ≤ 1 → ahead < left → (ahead < n) × (n ≤ 5)
+  width-fits e l h =
       by-test (eqb algorithm algorithmSm3)
-      (λ t. let e = width-hashed (eqb-true algorithm algorithmSm3 t) in let w = hashed-most left in omega arith)
-      (λ t. let e = width-keyed (eqb-false algorithm algorithmSm3 t) in let w = keyed-most left in omega arith)
-
-  -- a list has the step before, where there is one, and at least a step more
-  pub width-room : {ahead : ℕ} → ahead ≤ 1 → ahead < left → ahead < width algorithm left
-  width-room l h =
-      by-test (eqb algorithm algorithmSm3)
-      (λ t. let e = width-hashed (eqb-true algorithm algorithmSm3 t) in let w = hashed-room left l h in omega arith)
-      (λ t. let e = width-keyed (eqb-false algorithm algorithmSm3 t) in let w = keyed-most left in omega arith)
+      (λ t. let w = e ∙ width-hashed (eqb-true algorithm algorithmSm3 t) in rw w (hashed-fits left l h))
+      (λ t. let w = e ∙ width-keyed (eqb-false algorithm algorithmSm3 t) in let m = keyed-most left in (omega arith, omega arith))
 
   module _ (alone : Bool) where
     pub first-one : alone ≡ true → firstWidth algorithm alone left ≡ 1
@@ -85,21 +75,14 @@ module _ (algorithm left : ℕ) where
     unfolding firstWidth
     first-three t a = rw (t, ne-eqb algorithm algorithmSm3 a)
 
-    pub first-most : firstWidth algorithm alone left ≤ 5
-    first-most =
+    -- the same under a fresh key, if a step that goes alone has none before it
+    pub first-fits : {n ahead : ℕ} → n ≡ firstWidth algorithm alone left → ahead ≤ 1 → ahead < left → (alone ≡ true → ahead ≡ 0) → (ahead < n) × (n ≤ 5)
+    first-fits e l h z =
         by-test alone
-        (λ t. let e = first-one t in omega arith)
+        (λ t. let w = e ∙ first-one t in let y = z t in (omega arith, omega arith))
         (λ t. by-test (eqb algorithm algorithmSm3)
-        (λ u. let e = first-hashed t (eqb-true algorithm algorithmSm3 u) in let w = hashed-most left in omega arith)
-        (λ u. let e = first-three t (eqb-false algorithm algorithmSm3 u) in omega arith))
-
-    pub first-room : {ahead : ℕ} → ahead ≤ 1 → ahead < left → (alone ≡ true → ahead ≡ 0) → ahead < firstWidth algorithm alone left
-    first-room l h z =
-        by-test alone
-        (λ t. let e = first-one t in let n = z t in omega arith)
-        (λ t. by-test (eqb algorithm algorithmSm3)
-        (λ u. let e = first-hashed t (eqb-true algorithm algorithmSm3 u) in let w = hashed-room left l h in omega arith)
-        (λ u. let e = first-three t (eqb-false algorithm algorithmSm3 u) in omega arith))
+        (λ u. let w = e ∙ first-hashed t (eqb-true algorithm algorithmSm3 u) in rw w (hashed-fits left l h))
+        (λ u. let w = e ∙ first-three t (eqb-false algorithm algorithmSm3 u) in (omega arith, omega arith)))
 
 -- ---- the cuts are the password's
 

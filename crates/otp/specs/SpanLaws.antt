@@ -1,6 +1,6 @@
 -- A number of eight bytes in a row of 32-bit words: it may begin at any byte of a word, and then reaches over three words.
 use Prim.Native.Nat.{ℕ, zero, suc, _+_, _-_, _*_, _/_, _%_, _^_, _≤_, _<_}
-use mathlib.Core.Path.{_≡_, sym, ap, _∙_}
+use mathlib.Core.Path.{_≡_, refl, sym, ap, _∙_}
 use mathlib.Core.List.{List, [], _++_, append-nil}
 use mathlib.Core.Logic.{_⊎_, inl, inr}
 use native.Mathlib.Nat.{zero-add, add-zero, zero-mul, zero-lt-suc, lt-of-lt-of-le, pow-le-pow-right}
@@ -16,22 +16,33 @@ use Rattle.words.specs.ListsLaws.{by-test}
 use Rattle.words.specs.SumLaws.{zero-get, bytes-zeros, beAt-zeros}
 use Rattle.words.specs.SwapLaws.{bytes-append, bytes-beBytes}
 
--- the words of n that begins `bits` behind the beginning of the first
-unfoldable pub highWord : ℕ → ℕ → ℕ
-highWord n bits = n / 2 ^ (32 + bits)
-
-unfoldable pub middleWord : ℕ → ℕ → ℕ
-middleWord n bits = n / 2 ^ bits % 2 ^ 32
-
-unfoldable pub lowWord : ℕ → ℕ → ℕ
-lowWord n bits = n * 2 ^ (32 - bits) % 2 ^ 32
+-- word i of the three of n, which begins `bits` behind the beginning of the first
+unfoldable pub spanWord : ℕ → ℕ → ℕ → ℕ
+spanWord n bits zero = n / 2 ^ (32 + bits)
+spanWord n bits (suc zero) = n / 2 ^ bits % 2 ^ 32
+spanWord n bits (suc (suc i)) = n * 2 ^ (32 - bits) % 2 ^ 32
 
 pub high-fits : (n bits : ℕ) → n < 2 ^ 64 → n / 2 ^ (32 + bits) < 2 ^ 32
 high-fits n bits h = let wider : 64 ≤ 32 + (32 + bits) = omega arith in shr-lt 32 (32 + bits) (lt-of-lt-of-le h (pow-le-pow-right (zero-lt-suc 1) wider))
 
+module _ (n bits i : ℕ) where
+  pub span-first : i ≡ 0 → n / 2 ^ (32 + bits) ≡ spanWord n bits i
+  unfolding spanWord
+  span-first e = rw e
+
+  pub span-second : i ≡ 1 → n / 2 ^ bits % 2 ^ 32 ≡ spanWord n bits i
+  unfolding spanWord
+  span-second e = rw e
+
 -- 64 bits hold what the lowest 32 need
-pub low-of : (x : ℕ) → x % 2 ^ 64 % 2 ^ 32 ≡ x % 2 ^ 32
-low-of x = omega arith
+pub span-third : (n bits i : ℕ) → (i ≡ 0 → ⊥) → (i ≡ 1 → ⊥) → n * 2 ^ (32 - bits) % 2 ^ 64 % 2 ^ 32 ≡ spanWord n bits i
+unfolding spanWord
+span-third n bits zero a b = absurd (a refl)
+span-third n bits (suc zero) a b = absurd (b refl)
+span-third n bits (suc (suc i)) a b = low (n * 2 ^ (32 - bits))
+  where
+    low : (x : ℕ) → x % 2 ^ 64 % 2 ^ 32 ≡ x % 2 ^ 32
+    low x = omega arith
 
 -- the bytes of n from byte at on, behind zeros
 abbrev pub placed : ℕ → ℕ → List ℕ
@@ -42,12 +53,12 @@ abbrev pub spanned : ℕ → ℕ → List ℕ → List ℕ
 spanned at n w =
     let j = at / 4 in
     let bits = 8 * (at % 4) in
-    set (set (set w j (highWord n bits)) (j + 1) (middleWord n bits)) (j + 2) (lowWord n bits)
+    set (set (set w j (spanWord n bits 0)) (j + 1) (spanWord n bits 1)) (j + 2) (spanWord n bits 2)
 
 -- three words that are n's eight bytes behind r zeros
 three-words : (r n a b c : ℕ) → r < 4 → a < 2 ^ 32 → b < 2 ^ 32 → c < 2 ^ 32 → a * 2 ^ 64 + (b * 2 ^ 32 + c) ≡ n * 256 ^ (4 - r)
-    → (a ≡ highWord n (8 * r)) × ((b ≡ middleWord n (8 * r)) × (c ≡ lowWord n (8 * r)))
-unfolding highWord middleWord lowWord
+    → (a ≡ spanWord n (8 * r) 0) × ((b ≡ spanWord n (8 * r) 1) × (c ≡ spanWord n (8 * r) 2))
+unfolding spanWord
 three-words zero n a b c h p q s e = (omega arith, (omega arith, omega arith))
 three-words (suc zero) n a b c h p q s e = (omega arith, (omega arith, omega arith))
 three-words (suc (suc zero)) n a b c h p q s e = (omega arith, (omega arith, omega arith))
@@ -100,7 +111,7 @@ module _ (at n : ℕ) (h : n < 2 ^ 64) where
       let third : 4 * (at / 4 + 1) + 4 ≡ 4 * (at / 4 + 2) = omega arith in
       beAt-split 4 8 s p ∙ rw (second, beAt-split 4 4 s (4 * (at / 4 + 1)), third)
 
-  span-words : (wordAt (at / 4) ≡ highWord n (8 * (at % 4))) × ((wordAt (at / 4 + 1) ≡ middleWord n (8 * (at % 4))) × (wordAt (at / 4 + 2) ≡ lowWord n (8 * (at % 4))))
+  span-words : (wordAt (at / 4) ≡ spanWord n (8 * (at % 4)) 0) × ((wordAt (at / 4 + 1) ≡ spanWord n (8 * (at % 4)) 1) × (wordAt (at / 4 + 2) ≡ spanWord n (8 * (at % 4)) 2))
   span-words =
       three-words (at % 4) n (wordAt (at / 4)) (wordAt (at / 4 + 1)) (wordAt (at / 4 + 2)) (omega arith)
       (word-lt (at / 4)) (word-lt (at / 4 + 1)) (word-lt (at / 4 + 2)) (sym three-parts ∙ twelve-bytes)
@@ -114,20 +125,20 @@ module _ (at n : ℕ) (h : n < 2 ^ 64) where
   span-get w i room l zeros =
       let j = at / 4 in
       let bits = 8 * (at % 4) in
-      let w₁ = set w j (highWord n bits) in
-      let w₂ = set w₁ (j + 1) (middleWord n bits) in
+      let w₁ = set w j (spanWord n bits 0) in
+      let w₂ = set w₁ (j + 1) (spanWord n bits 1) in
       let l₁ : length w₁ ≡ 68 = rw length-set l in
       let l₂ : length w₂ ≡ 68 = rw length-set l₁ in
       let three = span-words in
       by-test (eqb i (j + 2))
-      (λ t. rw (eqb-true i (j + 2) t) (getD-set-same w₂ (j + 2) (lowWord n bits) 0 (omega arith) ∙ sym (three .1 .1)))
+      (λ t. rw (eqb-true i (j + 2) t) (getD-set-same w₂ (j + 2) (spanWord n bits 2) 0 (omega arith) ∙ sym (three .1 .1)))
       (λ t. let third = eqb-false i (j + 2) t in
-      getD-set-other w₂ (j + 2) i (lowWord n bits) 0 third
+      getD-set-other w₂ (j + 2) i (spanWord n bits 2) 0 third
       ∙ by-test (eqb i (j + 1))
-      (λ u. rw (eqb-true i (j + 1) u) (getD-set-same w₁ (j + 1) (middleWord n bits) 0 (omega arith) ∙ sym (three .1 .0)))
+      (λ u. rw (eqb-true i (j + 1) u) (getD-set-same w₁ (j + 1) (spanWord n bits 1) 0 (omega arith) ∙ sym (three .1 .0)))
       (λ u. let second = eqb-false i (j + 1) u in
-      getD-set-other w₁ (j + 1) i (middleWord n bits) 0 second
+      getD-set-other w₁ (j + 1) i (spanWord n bits 1) 0 second
       ∙ by-test (eqb i j)
-      (λ v. rw (eqb-true i j v) (getD-set-same w j (highWord n bits) 0 (omega arith) ∙ sym (three .0)))
+      (λ v. rw (eqb-true i j v) (getD-set-same w j (spanWord n bits 0) 0 (omega arith) ∙ sym (three .0)))
       (λ v. let first = eqb-false i j v in
-      getD-set-other w j i (highWord n bits) 0 first ∙ zeros i ∙ sym (no-word i (outside i j first second third)))))
+      getD-set-other w j i (spanWord n bits 0) 0 first ∙ zeros i ∙ sym (no-word i (outside i j first second third)))))

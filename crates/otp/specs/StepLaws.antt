@@ -21,7 +21,7 @@ use Rattle.otp.specs.Password.{factorBytes, idOf, filled, cut}
 use Rattle.otp.specs.StepCuts.{stepId, hashedCut, cutsFrom}
 use Rattle.otp.specs.StepCutsLaws.{four-cuts}
 use Rattle.otp.specs.HashedLaws.{cut-hash, laid-behind, laid-message}
-use Rattle.otp.specs.SpanLaws.{highWord, middleWord, lowWord, placed, spanned, span-get}
+use Rattle.otp.specs.SpanLaws.{spanWord, placed, spanned, span-get}
 
 -- ---- a step's ID
 
@@ -50,25 +50,26 @@ filled-number false s =
 
 -- ---- four IDs put side by side
 
--- one of the words of four numbers
-pub words-of : (word : ℕ → ℕ → ℕ) (timed : Bool) (s bits j : ℕ) (w w′ : List ℕ) {n₀ n₁ n₂ n₃ x₀ x₁ x₂ x₃ : ℕ}
+-- each message has word i of its step's ID, which begins at byte at
+abbrev pub WordPut : ℕ → Bool → ℕ → ℕ → List ℕ → List ℕ → Type 0
+WordPut at timed s i w w′ = Across (at / 4 + i) (λ k. spanWord (idNumber timed (s + k)) (8 * (at % 4)) i) w w′
+
+pub word-put : (at : ℕ) (timed : Bool) (s i : ℕ) (w w′ : List ℕ) {n₀ n₁ n₂ n₃ x₀ x₁ x₂ x₃ : ℕ}
     → n₀ ≡ idNumber timed s → n₁ ≡ idNumber timed (s + 1) → n₂ ≡ idNumber timed (s + 2) → n₃ ≡ idNumber timed (s + 3)
-    → x₀ ≡ word n₀ bits → x₁ ≡ word n₁ bits → x₂ ≡ word n₂ bits → x₃ ≡ word n₃ bits
-    → Across j (among x₀ x₁ x₂ x₃) w w′ → Across j (λ k. word (idNumber timed (s + k)) bits) w w′
-words-of word timed s bits j w w′ {x₀ = x₀} {x₁} {x₂} {x₃} e₀ e₁ e₂ e₃ p₀ p₁ p₂ p₃ =
-    let each : ℕ → ℕ = (λ k. word (idNumber timed (s + k)) bits) in
+    → x₀ ≡ spanWord n₀ (8 * (at % 4)) i → x₁ ≡ spanWord n₁ (8 * (at % 4)) i → x₂ ≡ spanWord n₂ (8 * (at % 4)) i → x₃ ≡ spanWord n₃ (8 * (at % 4)) i
+    → Across (at / 4 + i) (among x₀ x₁ x₂ x₃) w w′ → WordPut at timed s i w w′
+word-put at timed s i w w′ {x₀ = x₀} {x₁} {x₂} {x₃} e₀ e₁ e₂ e₃ p₀ p₁ p₂ p₃ =
+    let each : ℕ → ℕ = (λ k. spanWord (idNumber timed (s + k)) (8 * (at % 4)) i) in
     let first : x₀ ≡ each 0 = p₀ ∙ rw (e₀, add-zero) in
-    across-same j (among x₀ x₁ x₂ x₃) each w w′ (among-is each first (p₁ ∙ rw e₁) (p₂ ∙ rw e₂) (p₃ ∙ rw e₃))
+    across-same (at / 4 + i) (among x₀ x₁ x₂ x₃) each w w′ (among-is each first (p₁ ∙ rw e₁) (p₂ ∙ rw e₂) (p₃ ∙ rw e₃))
 
 -- each message has the number of its step's ID from byte at on
 pub record StepsPut (at : ℕ) (timed : Bool) (s : ℕ) (w w′ : List ℕ) : Type 0 where
   pub each : (k : ℕ) → k < 4 → laneOf 68 k w′ ≡ spanned at (idNumber timed (s + k)) (laneOf 68 k w)
 
-pub steps-put : (at : ℕ) (timed : Bool) (s : ℕ) (w w₁ w₂ w₃ : List ℕ)
-    → Across (at / 4) (λ k. highWord (idNumber timed (s + k)) (8 * (at % 4))) w w₁
-    → Across (at / 4 + 1) (λ k. middleWord (idNumber timed (s + k)) (8 * (at % 4))) w₁ w₂
-    → Across (at / 4 + 2) (λ k. lowWord (idNumber timed (s + k)) (8 * (at % 4))) w₂ w₃ → StepsPut at timed s w w₃
-steps-put at timed s w w₁ w₂ w₃ high middle low = record { each = λ k h. low .each k h ∙ rw (middle .each k h, high .each k h) }
+pub steps-put : (at : ℕ) (timed : Bool) (s : ℕ) (w w₁ w₂ w₃ : List ℕ) → WordPut at timed s 0 w w₁ → WordPut at timed s 1 w₁ w₂ → WordPut at timed s 2 w₂ w₃
+    → StepsPut at timed s w w₃
+steps-put at timed s w w₁ w₂ w₃ high middle low = record { each = λ k h. low .each k h ∙ rw (middle .each k h, high .each k h, add-zero) }
 
 -- ---- the block that they share
 

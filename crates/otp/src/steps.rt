@@ -10,8 +10,8 @@ ghost use mathlib.Core.Path.{_≡_};
 ghost use Prim.Native.Nat.{_^_, _≤_, _<_};
 ghost use lib.ListN.{length};
 ghost use Rattle.otp.specs.StepCuts.{timeAt, countAt, hashedCut, cutsFrom};
-ghost use Rattle.otp.specs.SpanLaws.{highWord, middleWord, lowWord};
-ghost use Rattle.otp.specs.StepLaws.{idNumber, StepsPut};
+ghost use Rattle.otp.specs.SpanLaws.{spanWord};
+ghost use Rattle.otp.specs.StepLaws.{idNumber, WordPut, StepsPut};
 
 // A time token's step is its time factor T, an event token's its count C.
 pub fn time_at(timed: bool, s: u64) -> Factor
@@ -56,26 +56,34 @@ fn id_number(timed: bool, s: u64) -> u64
     }
 }
 
-// The three words over which the eight bytes of n reach, if they begin `bits` behind the beginning of the first.
-fn high_word(n: u64, bits: u32) -> u32
+// Word i of the three over which the eight bytes of n reach, if they begin `bits` behind the beginning of the first.
+fn span_word(n: u64, bits: u32, i: usize) -> u32
     requires { ⌜ bits < 32 ⌝ }
-    ensures { λ r. ⌜ r ≡ highWord n bits ⌝ }
+    ensures { λ r. ⌜ r ≡ spanWord n bits i ⌝ }
 {
-    (n >> (32 + bits)) as u32
-}
-
-fn middle_word(n: u64, bits: u32) -> u32
-    requires { ⌜ bits < 32 ⌝ }
-    ensures { λ r. ⌜ r ≡ middleWord n bits ⌝ }
-{
-    ((n >> bits) % 0x1_0000_0000) as u32
-}
-
-fn low_word(n: u64, bits: u32) -> u32
-    requires { ⌜ bits < 32 ⌝ }
-    ensures { λ r. ⌜ r ≡ lowWord n bits ⌝ }
-{
+    if i == 0 {
+        return (n >> (32 + bits)) as u32;
+    }
+    if i == 1 {
+        return ((n >> bits) % 0x1_0000_0000) as u32;
+    }
     ((n << (32 - bits)) % 0x1_0000_0000) as u32
+}
+
+// Puts word i of the IDs of the steps s to s + 3, which begin at byte at, each into its message.
+fn put_word(w: &mut [u32], at: usize, timed: bool, s: u64, i: usize)
+    requires { ⌜ length (now w) ≡ 272 ⌝ }
+    requires { ⌜ at ≤ 32 ⌝ }
+    requires { ⌜ s < 2 ^ 63 ⌝ }
+    requires { ⌜ i < 3 ⌝ }
+    ensures { λ _. ⌜ WordPut at timed s i (now (w .entry)) (now (w .exit)) ⌝ }
+{
+    let bits = 8 * (at % 4) as u32;
+    let a = span_word(id_number(timed, s), bits, i);
+    let b = span_word(id_number(timed, s + 1), bits, i);
+    let c = span_word(id_number(timed, s + 2), bits, i);
+    let d = span_word(id_number(timed, s + 3), bits, i);
+    put_four(w, at / 4 + i, a, b, c, d);
 }
 
 // Puts the IDs of the steps s to s + 3 from byte at on, each into its message.
@@ -85,36 +93,9 @@ fn put_steps(w: &mut [u32], at: usize, timed: bool, s: u64)
     requires { ⌜ s < 2 ^ 63 ⌝ }
     ensures { λ _. ⌜ StepsPut at timed s (now (w .entry)) (now (w .exit)) ⌝ }
 {
-    let j = at / 4;
-    let bits = 8 * (at % 4) as u32;
-    let a = id_number(timed, s);
-    let b = id_number(timed, s + 1);
-    let c = id_number(timed, s + 2);
-    let d = id_number(timed, s + 3);
-    put_four(
-        w,
-        j,
-        high_word(a, bits),
-        high_word(b, bits),
-        high_word(c, bits),
-        high_word(d, bits),
-    );
-    put_four(
-        w,
-        j + 1,
-        middle_word(a, bits),
-        middle_word(b, bits),
-        middle_word(c, bits),
-        middle_word(d, bits),
-    );
-    put_four(
-        w,
-        j + 2,
-        low_word(a, bits),
-        low_word(b, bits),
-        low_word(c, bits),
-        low_word(d, bits),
-    );
+    put_word(w, at, timed, s, 0);
+    put_word(w, at, timed, s, 1);
+    put_word(w, at, timed, s, 2);
 }
 
 // The cuts of the steps s to s + 3. Key and padding are laid once.

@@ -20,7 +20,7 @@ use Rattle.otp.specs.NumbersLaws.{same-number}
 use Rattle.otp.specs.StepCuts.{stepId, cutsFrom}
 use Rattle.otp.specs.StepCutsLaws.{length-cutsFrom, cutsFrom-at}
 use Rattle.otp.specs.CutLists.{stepCut, width, firstWidth}
-use Rattle.otp.specs.CutListsLaws.{width-room, first-room}
+use Rattle.otp.specs.CutListsLaws.{width-fits, first-fits}
 use Rattle.window.specs.declared.Rule.{Rule}
 use Rattle.window.specs.declared.Step.{Step}
 use Rattle.window.specs.declared.search.Found.{Found}
@@ -241,17 +241,18 @@ part-is goal ahead before cuts s end ep ef el =
     rw (ef, el, w, l, ep)
 
 -- the cuts at the front of a buffer: enough, and those that the part is made of
-module _ (cuts : List ℕ) {n w : ℕ} (e : n ≡ w) where
-  pub made-room : {ahead : ℕ} → ahead < w → w ≤ 5 → length cuts ≡ 5 → (ahead < length (take (n - 0) cuts)) × (length (take (n - 0) cuts) ≤ 5)
-  made-room h m l = let k : length (take (n - 0) cuts) ≡ n = rw sub-zero (length-take-le n cuts (omega arith)) in (omega arith, omega arith)
+pub made-room : (cuts : List ℕ) {n ahead : ℕ} → length cuts ≡ 5 → (ahead < n) × (n ≤ 5) → (ahead < length (take (n - 0) cuts)) × (length (take (n - 0) cuts) ≤ 5)
+made-room cuts {n} l f =
+    let k : length (take (n - 0) cuts) ≡ n = rw sub-zero (length-take-le n cuts (omega (arith, f .1))) in
+    (omega (arith, f .0), omega (arith, f .1))
 
-  pub part-made : (goal : Goal) (ahead before s end : ℕ) (cutOf : ℕ → ℕ) (start : ℕ) {r : Part} → take w cuts ≡ cutsFrom cutOf w start
-      → r ≡ partOf goal ahead before (take (n - 0) cuts) s end → r ≡ partOf goal ahead before (cutsFrom cutOf w start) s end
-  part-made goal ahead before s end cutOf start et er = er ∙ rw (sub-zero, e, et)
+pub part-made : (goal : Goal) (ahead before s end : ℕ) (cutOf : ℕ → ℕ) (start : ℕ) (cuts : List ℕ) {n w : ℕ} {r : Part} → n ≡ w → take w cuts ≡ cutsFrom cutOf w start
+    → r ≡ partOf goal ahead before (take (n - 0) cuts) s end → r ≡ partOf goal ahead before (cutsFrom cutOf w start) s end
+part-made goal ahead before s end cutOf start cuts e t er = er ∙ rw (sub-zero, e, t)
 
 -- a part goes on by at least a step
 pub part-room : (algorithm ahead s end : ℕ) → ahead ≤ 1 → ahead ≤ s → s < end → ahead < width algorithm (end - (s - ahead))
-part-room algorithm ahead s end la ls h = width-room algorithm (end - (s - ahead)) la (omega arith)
+part-room algorithm ahead s end la ls h = width-fits algorithm (end - (s - ahead)) refl la (omega arith) .0
 
 -- ---- the first part
 
@@ -274,8 +275,8 @@ module _ (goal : Goal) (rule : Rule) (key : List ℕ) (likely : Bool) (first end
 
   -- what it gives, and that the search goes on behind it
   module _ (i : Within (aheadBy goal) first end) (ep : p ≡ firstPart goal rule key likely first end) where
-    pub room : aheadBy goal < firstWidth (rule .algorithm) (goesAlone goal likely) (end - (first - aheadBy goal))
-    room = first-room (rule .algorithm) (end - (first - aheadBy goal)) (goesAlone goal likely) (i .one) (omega (arith, i .begun, i .some, i .one)) (alone-ahead goal likely refl)
+    room : aheadBy goal < firstWidth (rule .algorithm) (goesAlone goal likely) (end - (first - aheadBy goal))
+    room = first-fits (rule .algorithm) (end - (first - aheadBy goal)) (goesAlone goal likely) refl (i .one) (omega (arith, i .begun, i .some, i .one)) (alone-ahead goal likely refl) .0
 
     pub first-last : p .last ≡ cutAt rule key (p .next - 1)
     unfolding firstPart

@@ -1,8 +1,8 @@
 use borrow.Author.Needs.{needs}
 use Prim.Native.Nat.{_-_}
 use native.Mathlib.Omega.{arith}
-use Rattle.otp.specs.CutListsLaws.{first-most, first-room}
-use Rattle.window.specs.Lanes.{cutAt, goesAlone}
+use Rattle.otp.specs.CutListsLaws.{first-fits}
+use Rattle.window.specs.Lanes.{cutAt}
 use Rattle.window.specs.LanesLaws.{alone-ahead, made-room, part-made, first-part-is}
 use Rattle.window.proofs.parts.first_part.Statement.{statement}
 use Rattle.window.proofs.parts.first_part.Tie as tie
@@ -30,22 +30,24 @@ part-part-of-start c = search needs
 
 part-part-of-end : tie.Need-part-part-of-end
 part-part-of-end c =
-    let a = c .before .before .before .before .before .before .before .before .before .before .before .before .args in
+    let start = c .before .before .before .before .before .before .before .before .before .before .before .before in
+    let a = start .args in
+    let within = start .pre .1 .1 .1 .1 in
+    let ahead = c .before .before .before .before .before .before .before .before .ahead-by .ensures in
     let made = c .before .before .before .before .put-first-cuts in
-    let most = first-most (a .rule .algorithm) (a .end - (a .first - c .before .before .before .before .before .before .before .before .ahead-by .result)) (goesAlone (a .goal) (a .likely)) in
-    omega (arith, most, made .ensures .0, made .kept .1 .1 .1 .1 .1 .1 .0)
+    let fits = first-fits _ _ _ (made .ensures .0) (ahead .1) (omega (arith, ahead .0, within .begun, within .some)) (alone-ahead (a .goal) (a .likely) (ahead .0)) in
+    omega (arith, fits .1, made .kept .1 .1 .1 .1 .1 .1 .0)
 
 part-of-requires : tie.Need-part-of-requires
 part-of-requires c κs =
     let start = c .before .before .before .before .before .before .before .before .before .before .before .before .before in
     let a = start .args in
     let within = start .pre .1 .1 .1 .1 in
-    let ahead = c .before .before .before .before .before .before .before .before .before .ahead-by in
-    let left = a .end - (a .first - ahead .result) in
+    let ahead = c .before .before .before .before .before .before .before .before .before .ahead-by .ensures in
     let made = c .before .before .before .before .before .put-first-cuts in
-    let room = first-room (a .rule .algorithm) left (goesAlone (a .goal) (a .likely)) (ahead .ensures .1) (omega (arith, ahead .ensures .0, within .begun, within .some)) (alone-ahead (a .goal) (a .likely) (ahead .ensures .0)) in
-    let fits = made-room _ (made .ensures .0) room (first-most (a .rule .algorithm) left (goesAlone (a .goal) (a .likely))) (made .kept .1 .1 .1 .1 .1 .1 .0) in
-    (start .pre .0, (fits .0, (fits .1, omega (arith, within .some, within .small))))
+    let fits = first-fits _ _ _ (made .ensures .0) (ahead .1) (omega (arith, ahead .0, within .begun, within .some)) (alone-ahead (a .goal) (a .likely) (ahead .0)) in
+    let room = made-room _ (made .kept .1 .1 .1 .1 .1 .1 .0) fits in
+    (start .pre .0, (room .0, (room .1, omega (arith, within .some, within .small))))
 
 same-length : tie.Need-same-length
 same-length c = search needs
@@ -55,7 +57,7 @@ returns c =
     let a = c .before .before .before .before .before .before .before .before .before .before .before .before .before .before .args in
     let ahead = c .before .before .before .before .before .before .before .before .before .before .ahead-by in
     let made = c .before .before .before .before .before .before .put-first-cuts .ensures in
-    let part = part-made _ (made .0) (a .goal) (ahead .result) 0 (a .first) (a .end) (cutAt (a .rule) (a .key .now)) (a .first - ahead .result) (made .1 .0) (c .part-of .ensures) in
+    let part = part-made (a .goal) (ahead .result) 0 (a .first) (a .end) (cutAt (a .rule) (a .key .now)) (a .first - ahead .result) _ (made .0) (made .1 .0) (c .part-of .ensures) in
     (first-part-is (a .goal) (a .rule) (a .key .now) (a .likely) (a .first) (a .end) (ahead .ensures .0) part, made .1 .1)
 
 pub first-part-spec : {M : Type 1} → statement M
