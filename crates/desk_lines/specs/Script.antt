@@ -1,5 +1,5 @@
 -- What the program desk_lines prints for its lines (docs/DESK-LINES.md), whole and where the input comes in pieces.
-use Prim.Native.Nat.{ℕ, zero, suc, _+_, _*_, _/_, _%_}
+use Prim.Native.Nat.{ℕ, zero, suc, _*_, _/_, _%_}
 use mathlib.Core.Path.{_≡_}
 use mathlib.Core.Bool.{Bool, true, false, _&&_, cond}
 use mathlib.Core.List.{List, [], _∷_, _++_}
@@ -83,10 +83,6 @@ servedAll passwords (line ∷ lines) stage =
 -- without a file there is no table before the first line
 abbrev pub start : Stage
 start = record { fresh = true; table = [] }
-
--- with a file the table is the file, and a `rows` line is not so made
-abbrev pub fileStart : List ℕ → Stage
-fileStart table = record { fresh = false; table = table }
 
 unfoldable pub outputOf : PasswordRule → List ℕ → List ℕ
 outputOf passwords input = servedAll passwords (linesOf input) start .text

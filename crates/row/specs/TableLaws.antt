@@ -1,22 +1,21 @@
 -- Laws of the table: what a search finds, and what a store leaves of the row.
-use Prim.Native.Nat.{ℕ, zero, suc, _+_, _-_, _*_, _/_, _≤_, _<_}
+use Prim.Native.Nat.{ℕ, zero, suc, _+_, _*_, _/_, _≤_, _<_}
 use mathlib.Core.Path.{_≡_, sym, ap, subst, _∙_}
 use mathlib.Core.Bool.{Bool, true, false}
 use mathlib.Core.List.{List, _++_, append-assoc}
 use native.Mathlib.Nat.{zero-add, not-suc-le-zero}
 use native.Mathlib.Omega.{arith}
-use lib.ListN.{length, set, take, drop, replicate, length-set, length-append, length-drop, length-replicate, take-append-drop}
-use lib.Seq.{length-take-le, drop-drop, set-getD}
+use lib.ListN.{length, set, take, drop, length-set, length-append, length-drop, take-append-drop}
+use lib.Seq.{length-take-le, drop-drop}
 use Rattle.words.specs.Bytes.{beBytes, putBe}
-use Rattle.words.specs.BytesLaws.{AreBytes, length-putBe, set-behind, putBe-behind, putBe-beAt}
-use Rattle.words.specs.PutLaws.{put-length}
+use Rattle.words.specs.BytesLaws.{AreBytes, length-putBe, set-behind, putBe-behind}
 use Rattle.words.specs.ListsLaws.{by-test}
 use Rattle.row.specs.declared.Row.{Row}
 use Rattle.row.specs.declared.reading.Place.the-variants.{At, Nowhere}
 use Rattle.row.specs.Row.{rowBytes, rowAt, keyAt, beforeKey, stepBytes, timeBytes, render, wellFormed}
 use Rattle.row.specs.RowLaws.{render-parse}
 use Rattle.row.specs.StoreLaws.{length-beforeKey, length-stepBytes, length-timeBytes}
-use Rattle.row.specs.Table.{isEmpty, hasSerial, firstRow, findRow, findEmpty, storeRow, wipeKey, zeroFilled, writeRow}
+use Rattle.row.specs.Table.{isEmpty, hasSerial, firstRow, findRow, findEmpty, storeRow}
 
 -- ---- what is found
 
@@ -102,29 +101,13 @@ module _ (s : List ℕ) where
 
 -- ---- what is stored
 
--- storing what is there changes nothing
-pub store-same : (s : List ℕ) (at : ℕ) → AreBytes s → storeRow s at (rowAt s at) ≡ s
-unfolding storeRow rowAt
-store-same s at bytes =
-    rw (set-getD s (at + 0) 0, set-getD s (at + 6) 0, putBe-beAt 8 s (at + 48) bytes, putBe-beAt 2 s (at + 56) bytes, putBe-beAt 8 s (at + 72) bytes, putBe-beAt 8 s (at + 80) bytes)
-
 pub length-store : (s : List ℕ) (at : ℕ) (r : Row) → length (storeRow s at r) ≡ length s
 unfolding storeRow
 length-store s at r = simp (length-putBe, length-set)
 
-pub length-wipe : (s : List ℕ) (at : ℕ) → at + rowBytes ≤ length s → length (wipeKey s at) ≡ length s
-unfolding wipeKey
-length-wipe s at h = put-length s (at + 16) (replicate 32 0) (omega arith)
-
 pub length-render : (r : Row) (key : List ℕ) → length key ≡ 32 → length (render r key) ≡ rowBytes
 unfolding render
 length-render r key l = rw (length-append, length-beforeKey r, length-append, l, length-append, length-stepBytes r, length-timeBytes r)
-
-pub length-write : (s : List ℕ) (at : ℕ) (r : Row) (key : List ℕ) → at + rowBytes ≤ length s → length key ≤ 32 → length (writeRow s at r key) ≡ length s
-unfolding writeRow
-length-write s at r key h k =
-    let z : length (zeroFilled key) ≡ 32 = rw (length-append, length-replicate {A = ℕ} (32 - length key) 0) (omega arith) in
-    rw (length-append, length-take-le at s (omega arith), length-append, length-render r (zeroFilled key) z, length-drop) (omega arith)
 
 -- what load gives and no other call changes
 pub record SameParticulars (r q : Row) : Type 0 where

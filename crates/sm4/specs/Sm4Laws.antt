@@ -1,5 +1,5 @@
 -- Laws of SM4: its words stay below 2^32, L takes fewer operations, steps compose, and the round keys are steps.
-use Prim.Native.Nat.{ℕ, zero, suc, _+_, _*_, _/_, _%_, _^_, _≤_, _<_}
+use Prim.Native.Nat.{ℕ, zero, suc, _+_, _/_, _%_, _^_, _≤_, _<_}
 use mathlib.Core.Path.{_≡_, refl, sym, ap, _∙_}
 use mathlib.Core.Bool.{Bool, true}
 use mathlib.Core.List.{List}
@@ -12,7 +12,6 @@ use lib.ListN.{length, getD, drop}
 use lib.Seq.{getD-drop}
 use Rattle.words.specs.Words.{_⊕_, _⋘_}
 use Rattle.words.specs.WordsLaws.{rotated-lt, rotated-whole, rotated-xor, rotations-add, rotated-pair, xor-assoc}
-use Rattle.words.specs.BytesLaws.{AreBytes, beAt-lt}
 use Rattle.words.specs.Tables.{every, entry-rule}
 use Rattle.sm4.specs.Sbox.{substitute}
 use Rattle.sm4.specs.SboxLaws.{sbox-byte}
@@ -46,10 +45,6 @@ module _ (b : ℕ) (h : b < 2 ^ 32) where
       (xor-below (xor-below (xor-below h (turned 2 (omega arith))) (turned 10 (omega arith))) (turned 18 (omega arith)))
       (turned 24 (omega arith))
 
-  pub linearKey-lt : linearKey b < 2 ^ 32
-  unfolding linearKey
-  linearKey-lt = xor-below (xor-below h (turned 13 (omega arith))) (turned 23 (omega arith))
-
 -- a state of four 32-bit words
 pub record QuadBelow (q : Quad) : Type 0 where
   pub a-lt : q .a < 2 ^ 32
@@ -72,26 +67,6 @@ module _ (lin : ℕ → ℕ) (lin-lt : (x : ℕ) → x < 2 ^ 32 → lin x < 2 ^ 
   unfolding steps
   steps-below ks zero q h = h
   steps-below ks (suc i) q h = step-below (getD ks i 0) (steps lin ks i q) (steps-below ks i q h)
-
-pub wordsOf-below : (s : List ℕ) → AreBytes s → QuadBelow (wordsOf s)
-unfolding wordsOf
-wordsOf-below s h = record { a-lt = beAt-lt 4 s 0 h; b-lt = beAt-lt 4 s 4 h; c-lt = beAt-lt 4 s 8 h; d-lt = beAt-lt 4 s 12 h }
-
-masked-below : (q : Quad) → QuadBelow q → QuadBelow (masked q)
-unfolding masked
-masked-below q h = record {
-  a-lt = xor-below (h .a-lt) (omega arith);
-  b-lt = xor-below (h .b-lt) (omega arith);
-  c-lt = xor-below (h .c-lt) (omega arith);
-  d-lt = xor-below (h .d-lt) (omega arith);
-}
-
-pub ck-lt : (i : ℕ) → ck i < 2 ^ 32
-unfolding ck ckByte
-ck-lt i = word-lt (at 0) (at 1) (at 2) (at 3)
-  where
-    at : (j : ℕ) → (4 * i + j) * 7 % 256 < 256
-    at j = mod-lt ((4 * i + j) * 7) (zero-lt-suc 255)
 
 -- ---- L in fewer operations
 
@@ -157,8 +132,3 @@ keys-are-steps q (suc n) i (suc j) h l =
 pub round-key-is : (key : List ℕ) (i : ℕ) → i < 32 → getD (roundKeys key) i 0 ≡ steps linearKey cks (suc i) (masked (wordsOf key)) .d
 unfolding roundKeys steps
 round-key-is key i h = keys-are-steps (masked (wordsOf key)) 32 0 i (omega arith) h ∙ ap (λ (m : ℕ). steps linearKey cks (suc m) (masked (wordsOf key)) .d) (zero-add i)
-
-pub round-keys-lt : (key : List ℕ) → AreBytes key → (i : ℕ) → i < 32 → getD (roundKeys key) i 0 < 2 ^ 32
-round-keys-lt key h i l =
-    rw (round-key-is key i l)
-    (steps-below linearKey linearKey-lt cks (suc i) (masked (wordsOf key)) (masked-below (wordsOf key) (wordsOf-below key h)) .d-lt)

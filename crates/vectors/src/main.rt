@@ -3,8 +3,6 @@ use libc::STDOUT_FILENO;
 use sm3::sm3;
 use sm4::encrypt;
 use sm4::round_keys;
-ghost use mathlib.Core.Path.{_≡_};
-ghost use lib.ListN.{length};
 
 // One line: what it is, then the bytes in hexadecimal.
 fn show(name: &[u8], bytes: &[u8]) {
