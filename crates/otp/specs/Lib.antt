@@ -12,3 +12,4 @@ pub mod NumbersLaws
 pub mod HashedLaws
 pub mod SpanLaws
 pub mod StepLaws
+pub mod PasswordTable

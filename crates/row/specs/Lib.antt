@@ -6,3 +6,5 @@ pub mod RowLaws
 pub mod ReadLaws
 pub mod StoreLaws
 pub mod TableLaws
+pub mod LayoutTable
+pub mod RangeTable

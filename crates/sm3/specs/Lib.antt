@@ -3,3 +3,4 @@ pub mod Sm3
 pub mod PaddingLaws
 pub mod Sm3Laws
 pub mod Sm3Examples
+pub mod GreatLengths

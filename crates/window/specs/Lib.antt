@@ -13,3 +13,5 @@ pub mod TokenCheckLaws
 pub mod Lanes
 pub mod LanesLaws
 pub mod LanesCheckLaws
+pub mod WindowTable
+pub mod StepPasswords
