@@ -8,3 +8,5 @@ pub mod Demand2Laws
 pub mod ArgumentsLaws
 pub mod DeskLaws
 pub mod LoadLaws
+pub mod CallLines
+pub mod CallTable

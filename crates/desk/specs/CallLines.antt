@@ -1,0 +1,124 @@
+-- Lines of data that restate what the desk does with a row (document 01, Part 5), and the test that holds them to it: a call, the number that is answered,
+-- what the answer carries, and every byte of the row after it.
+use Prim.Native.Nat.{ℕ, _+_, _*_}
+use mathlib.Core.Bool.{Bool, true, false, _&&_}
+use mathlib.Core.List.{List, [], _∷_, _++_}
+use lib.Dec.{eqb}
+use lib.ListN.{length, replicate}
+use Rattle.words.specs.Bytes.{beBytes, put}
+use Rattle.words.specs.Lists.{sameBytes}
+use Rattle.otp.specs.Password.{decimals}
+use Rattle.window.specs.PasswordAt.{PasswordRule}
+use Rattle.token.specs.declared.answers.Answer.{Answer}
+use Rattle.token.specs.Codes.{numberOf, Signed, valuesOf}
+use Rattle.token.specs.Codes.Signed.{plus, minus}
+use Rattle.token.specs.OnTable.{Result}
+use Rattle.desk.specs.Requests.{Request, DeskCall}
+use Rattle.desk.specs.Desk.{deskAfter}
+
+-- ---- a row, and what a call changes of it
+
+-- a time token by its state, errors, first unused step and `locked at`: SM3, six digits, period 60, limit 3, serial 9, d 0, wait 60, expiry 5000, last use 500
+abbrev pub rowWith : ℕ → ℕ → ℕ → ℕ → List ℕ
+rowWith state errors next locked =
+    (state ∷ 0 ∷ 3 ∷ 6 ∷ 60 ∷ 3 ∷ errors ∷ 16 ∷ [])
+    ++ (beBytes 8 9
+    ++ ((replicate 16 7 ++ replicate 16 0)
+    ++ (beBytes 8 next
+    ++ (beBytes 2 600
+    ++ (replicate 2 0 ++ (beBytes 4 60 ++ (beBytes 8 5000 ++ (beBytes 8 locked ++ (beBytes 8 500 ++ replicate 8 0)))))))))
+
+-- the rows in states 1 to 6, with two errors and first unused step 17, which is T at the clocks 1059 and 1060; the lock by errors was at 1000
+abbrev pub sixRows : List (List ℕ)
+sixRows = rowWith 1 2 17 0 ∷ rowWith 2 2 17 0 ∷ rowWith 3 2 17 1000 ∷ rowWith 4 2 17 0 ∷ rowWith 5 2 17 0 ∷ rowWith 6 2 17 0 ∷ []
+
+-- bytes that stand at an offset of the row afterwards
+pub record Change : Type 0 where
+  pub offset : ℕ
+  pub bytes : List ℕ
+
+abbrev pub change : ℕ → List ℕ → Change
+change offset bytes = record { offset = offset; bytes = bytes }
+
+abbrev pub state : ℕ → Change
+state x = change 0 (x ∷ [])
+
+abbrev pub errors : ℕ → Change
+errors x = change 6 (x ∷ [])
+
+abbrev pub next : ℕ → Change
+next x = change 48 (beBytes 8 x)
+
+-- d + 600
+abbrev pub offset : ℕ → Change
+offset x = change 56 (beBytes 2 x)
+
+abbrev pub lockedAt : ℕ → Change
+lockedAt x = change 72 (beBytes 8 x)
+
+abbrev pub lastUse : ℕ → Change
+lastUse x = change 80 (beBytes 8 x)
+
+abbrev pub zeroKey : Change
+zeroKey = change 16 (replicate 32 0)
+
+abbrev pub changed : List ℕ → List Change → List ℕ
+changed s [] = s
+changed s (c ∷ cs) = changed (put s (c .offset) (c .bytes)) cs
+
+-- ---- a line: a call, and what it answers, carries and changes in each of some rows
+
+pub record Cell : Type 0 where
+  pub code : ℕ
+  pub values : List Signed
+  pub changes : List Change
+
+abbrev pub cell : ℕ → List Signed → List Change → Cell
+cell code values changes = record { code = code; values = values; changes = changes }
+
+-- nothing changes
+abbrev pub no : ℕ → Cell
+no code = cell code [] []
+
+pub record Line : Type 0 where
+  pub call : DeskCall
+  pub rows : List (List ℕ)
+  pub cells : List Cell
+
+-- the password of step s is s, and 1000 more for each byte of the challenge
+abbrev pub bySteps : PasswordRule
+bySteps rule key challenge s = decimals (rule .digits) (s + 1000 * length challenge)
+
+abbrev pub carried : Answer → List Signed
+carried (Answer.Success call content) = valuesOf content
+carried (Answer.Refused refusal) = []
+
+abbrev pub sameSigned : Signed → Signed → Bool
+sameSigned (plus a) (plus b) = eqb a b
+sameSigned (minus a) (minus b) = eqb a b
+sameSigned (plus a) (minus b) = false
+sameSigned (minus a) (plus b) = false
+
+abbrev pub sameValues : List Signed → List Signed → Bool
+sameValues [] [] = true
+sameValues [] (y ∷ b) = false
+sameValues (x ∷ a) [] = false
+sameValues (x ∷ a) (y ∷ b) = sameSigned x y && sameValues a b
+
+abbrev pub cellHolds : Result → List ℕ → Cell → Bool
+cellHolds x s c = (eqb (numberOf (x .answer)) (c .code) && sameValues (carried (x .answer)) (c .values)) && sameBytes (x .table) (changed s (c .changes))
+
+-- the row is all of the table
+abbrev pub cellsHold : DeskCall → List (List ℕ) → List Cell → Bool
+cellsHold call [] [] = true
+cellsHold call [] (c ∷ cs) = false
+cellsHold call (s ∷ ss) [] = false
+cellsHold call (s ∷ ss) (c ∷ cs) = cellHolds (deskAfter bySteps call s) s c && cellsHold call ss cs
+
+abbrev pub allHold : List Line → Bool
+allHold [] = true
+allHold (l ∷ ls) = cellsHold (l .call) (l .rows) (l .cells) && allHold ls
+
+-- a request at a clock reading, and its cells in states 1 to 6
+abbrev pub line : Request → ℕ → Cell → Cell → Cell → Cell → Cell → Cell → Line
+line request clock a b c d e f = record { call = DeskCall.named request 9 clock; rows = sixRows; cells = a ∷ b ∷ c ∷ d ∷ e ∷ f ∷ [] }
