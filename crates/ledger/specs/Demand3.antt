@@ -1,5 +1,5 @@
 -- The buyer's third demand (docs/OFFER.md), for every password rule. This page has the statements; `Demand3Laws` and `OtherRows` have the proofs.
-use Prim.Native.Nat.{ℕ, _+_, _*_, _^_, _≤_, _<_}
+use Prim.Native.Nat.{ℕ, _+_, _*_, _≤_, _<_}
 use mathlib.Core.Path.{_≡_}
 use mathlib.Core.Bool.{true, false, _&&_, cond}
 use mathlib.Core.List.{List, [], _∷_, _++_}
@@ -17,16 +17,10 @@ use Rattle.ledger.specs.Ledger.{names, ledger}
 
 -- ---- the claim about the list as a whole
 
--- the serial of a load has 8 bytes (Part 4)
-abbrev pub SerialsFit : List DeskCall → Type 0
-SerialsFit [] = Unit {0}
-SerialsFit (DeskCall.load p key ∷ calls) = (p .serial < 2 ^ 64) × SerialsFit calls
-SerialsFit (DeskCall.named request serial clock ∷ calls) = SerialsFit calls
-
 -- from 1 to 256 zero rows, every list of calls has the ledger machine's answers with their contents, and leaves its table
 abbrev pub Demand3 : Type 0
 Demand3 =
-    (passwords : PasswordRule) (rows : ℕ) → 1 ≤ rows → rows ≤ 256 → (calls : List DeskCall) → SerialsFit calls
+    (passwords : PasswordRule) (rows : ℕ) → 1 ≤ rows → rows ≤ 256 → (calls : List DeskCall)
     → run passwords calls (replicate {A = ℕ} (rowBytes * rows) 0) ≡ ledger passwords rows calls
 
 -- ---- what follows for each token, over the desk's own answers
@@ -58,7 +52,7 @@ Rising (a ∷ steps) = AllAbove a steps × Rising steps
 
 abbrev pub StepsRise : Type 0
 StepsRise =
-    (passwords : PasswordRule) (rows : ℕ) → 1 ≤ rows → rows ≤ 256 → (calls : List DeskCall) → SerialsFit calls → (serial : ℕ)
+    (passwords : PasswordRule) (rows : ℕ) → 1 ≤ rows → rows ≤ 256 → (calls : List DeskCall) (serial : ℕ)
     → Rising (acceptedSteps serial calls (answersOf passwords rows calls))
 
 -- behind every void of a token that was answered 010a, no step of the token is accepted
@@ -70,7 +64,7 @@ NothingAfterVoid serial (call ∷ calls) (answer ∷ answers) =
 
 abbrev pub VoidAcceptsNothing : Type 0
 VoidAcceptsNothing =
-    (passwords : PasswordRule) (rows : ℕ) → 1 ≤ rows → rows ≤ 256 → (calls : List DeskCall) → SerialsFit calls → (serial : ℕ)
+    (passwords : PasswordRule) (rows : ℕ) → 1 ≤ rows → rows ≤ 256 → (calls : List DeskCall) (serial : ℕ)
     → NothingAfterVoid serial calls (answersOf passwords rows calls)
 
 -- ---- other tokens' rows, on any table: damaged rows included
