@@ -9,7 +9,7 @@ use Rattle.row.specs.Row.{rowBytes}
 use Rattle.desk.specs.Requests.{DeskCall}
 use Rattle.desk.specs.Desk.{deskAfter, Run, run}
 use Rattle.ledger.specs.Ledger.{Entry, loads, answerTo, rowsOf, tableOf, ledgerFrom, ledger}
-use Rattle.ledger.specs.Demand3.{Demand3, answersOf, StepsRise, VoidAcceptsNothing}
+use Rattle.ledger.specs.Demand3.{Demand3, answersOf, StepsRise, VoidAcceptsNothing, VoidAcceptsNoCode}
 use Rattle.ledger.specs.Tokens.{Held, AllSane}
 use Rattle.ledger.specs.Described.{withEntry, tokensOf, Consistent}
 use Rattle.ledger.specs.BytesStep.{bytes-step}
@@ -18,6 +18,7 @@ use Rattle.ledger.specs.ConsistentLaws.{start-consistent, consistent-ste
 use Rattle.ledger.specs.HistoryLaws.{history-step, tokens-fit, history-table}
 use Rattle.ledger.specs.StepsLaws.{ledger-steps-rise}
 use Rattle.ledger.specs.VoidLaws.{ledger-void-accepts-nothing}
+use Rattle.ledger.specs.CodesLaws.{after-void-by-code}
 
 -- ---- one call
 
@@ -84,3 +85,7 @@ steps-rise passwords rows some few calls serial = rw (same-answers passwords row
 
 pub void-accepts-nothing : VoidAcceptsNothing
 void-accepts-nothing passwords rows some few calls serial = rw (same-answers passwords rows some few calls) (ledger-void-accepts-nothing passwords rows serial calls)
+
+pub void-accepts-no-code : VoidAcceptsNoCode
+void-accepts-no-code passwords rows some few calls serial =
+    after-void-by-code passwords serial calls (replicate {A = ℕ} (rowBytes * rows) 0) (void-accepts-nothing passwords rows some few calls serial)
