@@ -1,11 +1,14 @@
 -- What each branch of a load returns.
-use Prim.Native.Nat.{ℕ, _+_, _≤_, _<_}
+use Prim.Native.Nat.{ℕ, _+_, _^_, _≤_, _<_}
 use mathlib.Core.Path.{_≡_, refl, sym, _∙_}
 use mathlib.Core.Bool.{Bool, true, false, _&&_}
 use mathlib.Core.List.{List}
 use native.Mathlib.Omega.{arith}
+use borrow.Author.Tests.{lt-ltb, ltb-true}
+use lib.Dec.{ltb}
 use lib.ListN.{length}
 use Rattle.words.specs.ListsLaws.{by-test}
+use Rattle.words.specs.Tables.{and-left, and-right}
 use Rattle.window.specs.PasswordAt.{PasswordRule}
 use Rattle.row.specs.declared.Row.{Row}
 use Rattle.row.specs.declared.reading.Place.{Place}
@@ -22,17 +25,24 @@ use Rattle.desk.specs.Requests.{DeskCall, tableOk, loadedRow, loadOk}
 use Rattle.desk.specs.Desk.{deskAfter}
 
 module _ (p : Particulars) (key : List ℕ) where
+  pub load-tested : {r : Row} {b : Bool} → p .serial < 2 ^ 64 → r ≡ loadedRow p key → b ≡ numbersOk r → b ≡ loadOk p key
+  unfolding loadOk
+  load-tested h e t = rw (lt-ltb (p .serial) (2 ^ 64) h, ← e) t
+
+  module _ (ok : loadOk p key ≡ true) where
+    pub loaded-serial-fits : p .serial < 2 ^ 64
+    unfolding loadOk
+    loaded-serial-fits = ltb-true (p .serial) (2 ^ 64) (and-left (ltb (p .serial) (2 ^ 64)) (numbersOk (loadedRow p key)) ok)
+
+    pub loaded-numbers : numbersOk (loadedRow p key) ≡ true
+    unfolding loadOk
+    loaded-numbers = and-right (ltb (p .serial) (2 ^ 64)) (numbersOk (loadedRow p key)) ok
+
+    pub loaded-key-short : length key ≤ 32
+    loaded-key-short = length-in-range (loadedRow p key) loaded-numbers .1
+
   pub long-key-bad : 32 < length key → false ≡ loadOk p key
-  unfolding loadOk
-  long-key-bad l = by-test (numbersOk (loadedRow p key)) (λ t. let n = length-in-range (loadedRow p key) t .1 in absurd (omega arith)) (λ t. sym t)
-
-  pub load-tested : {r : Row} {b : Bool} → r ≡ loadedRow p key → b ≡ numbersOk r → b ≡ loadOk p key
-  unfolding loadOk
-  load-tested e t = rw (← e) t
-
-  pub loaded-key-short : loadOk p key ≡ true → length key ≤ 32
-  unfolding loadOk
-  loaded-key-short t = length-in-range (loadedRow p key) t .1
+  long-key-bad l = by-test (loadOk p key) (λ t. let n = loaded-key-short t in absurd (omega arith)) (λ t. sym t)
 
 module _ (passwords : PasswordRule) (p : Particulars) (key s : List ℕ) where
   pub load-unfit : tableOk s && loadOk p key ≡ false

@@ -79,6 +79,6 @@ loadedRow p key =
       used = record { 0 = 0 };
     }
 
--- a load's values are in range if the row that they give keeps Part 4's list
+-- a load's values are in range if the serial has 8 bytes and the row that they give keeps Part 4's list
 unfoldable pub loadOk : Particulars → List ℕ → Bool
-loadOk p key = numbersOk (loadedRow p key)
+loadOk p key = ltb (p .serial) (2 ^ 64) && numbersOk (loadedRow p key)

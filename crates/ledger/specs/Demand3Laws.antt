@@ -9,19 +9,16 @@ use Rattle.row.specs.Row.{rowBytes}
 use Rattle.desk.specs.Requests.{DeskCall}
 use Rattle.desk.specs.Desk.{deskAfter, Run, run}
 use Rattle.ledger.specs.Ledger.{Entry, loads, answerTo, rowsOf, tableOf, ledgerFrom, ledger}
-use Rattle.ledger.specs.Demand3.{SerialsFit, Demand3, answersOf, StepsRise, VoidAcceptsNothing}
+use Rattle.ledger.specs.Demand3.{Demand3, answersOf, StepsRise, VoidAcceptsNothing, VoidAcceptsNoCode}
 use Rattle.ledger.specs.Tokens.{Held, AllSane}
 use Rattle.ledger.specs.Described.{withEntry, tokensOf, Consistent}
 use Rattle.ledger.specs.BytesStep.{bytes-step}
-use Rattle.ledger.specs.SaneLaws.{SerialFits, sane-after}
+use Rattle.ledger.specs.SaneLaws.{sane-after}
 use Rattle.ledger.specs.ConsistentLaws.{start-consistent, consistent-step}
 use Rattle.ledger.specs.HistoryLaws.{history-step, tokens-fit, history-table}
 use Rattle.ledger.specs.StepsLaws.{ledger-steps-rise}
 use Rattle.ledger.specs.VoidLaws.{ledger-void-accepts-nothing}
-
-first-fits : (call : DeskCall) (calls : List DeskCall) → SerialsFit (call ∷ calls) → SerialFits call × SerialsFit calls
-first-fits (DeskCall.load p key) calls h = h
-first-fits (DeskCall.named request serial clock) calls h = (tt, h)
+use Rattle.ledger.specs.CodesLaws.{after-void-by-code}
 
 -- ---- one call
 
@@ -53,39 +50,42 @@ module _ (passwords : PasswordRule) (rows : ℕ) (history : List Entry) (call : 
         history-table rows (withEntry call (answerTo passwords rows history call) history),
       )
 
-  pub faithful-step : SerialFits call → Faithful rows (withEntry call (answerTo passwords rows history call) history)
-  faithful-step fit =
+  pub faithful-step : Faithful rows (withEntry call (answerTo passwords rows history call) history)
+  faithful-step =
       let step = history-step passwords rows history call (faithful .consistent) (faithful .sane) in
       record {
         consistent = consistent-step passwords rows history call (faithful .consistent);
-        sane = rw (ap (λ (x : Held). x .tokens) step) at (sane-after passwords rows call (tokensOf (loads history) history) (faithful .sane) fit);
+        sane = rw (ap (λ (x : Held). x .tokens) step) at (sane-after passwords rows call (tokensOf (loads history) history) (faithful .sane));
       }
 
 -- ---- every list of calls
 
 module _ (passwords : PasswordRule) (rows : ℕ) (some : 1 ≤ rows) (few : rows ≤ 256) where
-  run-from : (history : List Entry) (calls : List DeskCall) → SerialsFit calls → Faithful rows history
+  run-from : (history : List Entry) (calls : List DeskCall) → Faithful rows history
       → run passwords calls (tableOf rows history) ≡ ledgerFrom passwords rows history calls
   unfolding run ledgerFrom
-  run-from history [] fit faithful = refl
-  run-from history (call ∷ calls) fit faithful =
-      let first = first-fits call calls fit in
+  run-from history [] faithful = refl
+  run-from history (call ∷ calls) faithful =
       rw (
         call-step passwords rows history call faithful some few,
-        run-from (withEntry call (answerTo passwords rows history call) history) calls (first .1) (faithful-step passwords rows history call faithful (first .0)),
+        run-from (withEntry call (answerTo passwords rows history call) history) calls (faithful-step passwords rows history call faithful),
       )
 
 -- ---- the statements
 
 pub demand-3 : Demand3
-demand-3 passwords rows some few calls fit = rw (← start-table rows) (run-from passwords rows some few [] calls fit (start-faithful rows))
+demand-3 passwords rows some few calls = rw (← start-table rows) (run-from passwords rows some few [] calls (start-faithful rows))
 
-same-answers : (passwords : PasswordRule) (rows : ℕ) → 1 ≤ rows → rows ≤ 256 → (calls : List DeskCall) → SerialsFit calls
+same-answers : (passwords : PasswordRule) (rows : ℕ) → 1 ≤ rows → rows ≤ 256 → (calls : List DeskCall)
     → answersOf passwords rows calls ≡ ledger passwords rows calls .answers
-same-answers passwords rows some few calls fit = ap (λ (r : Run). r .answers) (demand-3 passwords rows some few calls fit)
+same-answers passwords rows some few calls = ap (λ (r : Run). r .answers) (demand-3 passwords rows some few calls)
 
 pub steps-rise : StepsRise
-steps-rise passwords rows some few calls fit serial = rw (same-answers passwords rows some few calls fit) (ledger-steps-rise passwords rows serial calls)
+steps-rise passwords rows some few calls serial = rw (same-answers passwords rows some few calls) (ledger-steps-rise passwords rows serial calls)
 
 pub void-accepts-nothing : VoidAcceptsNothing
-void-accepts-nothing passwords rows some few calls fit serial = rw (same-answers passwords rows some few calls fit) (ledger-void-accepts-nothing passwords rows serial calls)
+void-accepts-nothing passwords rows some few calls serial = rw (same-answers passwords rows some few calls) (ledger-void-accepts-nothing passwords rows serial calls)
+
+pub void-accepts-no-code : VoidAcceptsNoCode
+void-accepts-no-code passwords rows some few calls serial =
+    after-void-by-code passwords serial calls (replicate {A = ℕ} (rowBytes * rows) 0) (void-accepts-nothing passwords rows some few calls serial)

@@ -14,6 +14,7 @@ pub mod RequestAtLaws
 pub mod RenderedLaws
 pub mod BytesStep
 pub mod OtherRows
+pub mod CodesLaws
 -- the tokens and the history
 pub mod Described
 pub mod Entering

@@ -1,5 +1,5 @@
 -- Tokens stay sane: what a call leaves of them is well formed, and there is room for it.
-use Prim.Native.Nat.{ℕ, zero, suc, _-_, _^_, _≤_, _<_}
+use Prim.Native.Nat.{ℕ, zero, suc, _-_, _^_, _<_}
 use mathlib.Core.Path.{_≡_, refl, ap}
 use mathlib.Core.Bool.{true, _&&_}
 use mathlib.Core.List.{List, [], _∷_, _++_}
@@ -13,21 +13,16 @@ use Rattle.words.specs.ListsLaws.{drop-zeros}
 use Rattle.words.specs.Tables.{and-left}
 use Rattle.window.specs.PasswordAt.{PasswordRule}
 use Rattle.row.specs.Row.{keyBytes}
-use Rattle.row.specs.RowLaws.{length-in-range}
 use Rattle.row.specs.Table.{zeroFilled}
 use Rattle.token.specs.OnTable.{wipes}
 use Rattle.desk.specs.declared.Particulars.{Particulars}
 use Rattle.desk.specs.Requests.{Request, DeskCall, clockOk, requestOk, loadedRow, loadOk}
+use Rattle.desk.specs.LoadLaws.{loaded-serial-fits, loaded-numbers, loaded-key-short}
 use Rattle.ledger.specs.Tokens.{Token, Held, kept, requestedToken, servedAmong, hasToken, tokensAfter, Sane, AllSane}
 use Rattle.words.specs.Branches.{either, either-by}
 use Rattle.ledger.specs.Ranges.{Live}
 use Rattle.ledger.specs.RangeLaws.{numbers-in-ranges, ranges-ok}
 use Rattle.ledger.specs.ServedLaws.{requested-leaves}
-
--- the serial of a load has 8 bytes
-abbrev pub SerialFits : DeskCall → Type 0
-SerialFits (DeskCall.load p key) = p .serial < 2 ^ 64
-SerialFits (DeskCall.named request serial clock) = Unit {0}
 
 pub sane-live : {t : Token} → Sane t → Live (t .row)
 sane-live {t} s = record { ranges = numbers-in-ranges (t .row) (s .numbers); taken = s .taken }
@@ -71,20 +66,15 @@ length-served passwords request clock serial (t ∷ ts) =
 -- ---- a load
 
 module _ (p : Particulars) (key : List ℕ) (ok : loadOk p key ≡ true) where
-  key-fits : length key ≤ keyBytes
-  unfolding loadOk
-  key-fits = length-in-range (loadedRow p key) ok .1
-
   pub length-zero-filled : length (zeroFilled key) ≡ keyBytes
-  length-zero-filled = let f = key-fits in rw (length-append, length-replicate {A = ℕ} (keyBytes - length key) 0) (omega arith)
+  length-zero-filled = let f = loaded-key-short p key ok in rw (length-append, length-replicate {A = ℕ} (keyBytes - length key) 0) (omega arith)
 
-  loaded-sane : p .serial < 2 ^ 64 → Sane (record { row = loadedRow p key; key = zeroFilled key })
-  unfolding loadOk
-  loaded-sane h =
+  loaded-sane : Sane (record { row = loadedRow p key; key = zeroFilled key })
+  loaded-sane =
       record {
-        numbers = ok;
+        numbers = loaded-numbers p key ok;
         taken = omega arith;
-        serial = h;
+        serial = loaded-serial-fits p key ok;
         width = length-zero-filled;
         filled = rw (drop-append-seam key (replicate (keyBytes - length key) 0)) (zeros-are-zero (keyBytes - length key));
       }
@@ -95,15 +85,14 @@ sane-more (u ∷ ts) t all s = (all .0, sane-more ts t (all .1) s)
 
 -- ---- every call
 
-pub sane-after : (passwords : PasswordRule) (rows : ℕ) (call : DeskCall) (ts : List Token) → AllSane ts → SerialFits call
-    → AllSane (tokensAfter passwords rows call ts .tokens)
+pub sane-after : (passwords : PasswordRule) (rows : ℕ) (call : DeskCall) (ts : List Token) → AllSane ts → AllSane (tokensAfter passwords rows call ts .tokens)
 unfolding tokensAfter
-sane-after passwords rows (DeskCall.load p key) ts all h =
+sane-after passwords rows (DeskCall.load p key) ts all =
     let P : Held → Type 0 = λ x. AllSane (x .tokens) in
     either-by P (loadOk p key)
-    (λ ok. either P (hasToken (p .serial) ts) all (either P (ltb (length ts) rows) (sane-more ts (record { row = loadedRow p key; key = zeroFilled key }) all (loaded-sane p key ok h)) all))
+    (λ ok. either P (hasToken (p .serial) ts) all (either P (ltb (length ts) rows) (sane-more ts (record { row = loadedRow p key; key = zeroFilled key }) all (loaded-sane p key ok)) all))
     (λ bad. all)
-sane-after passwords rows (DeskCall.named request serial clock) ts all h =
+sane-after passwords rows (DeskCall.named request serial clock) ts all =
     either-by (λ (x : Held). AllSane (x .tokens)) (clockOk clock && requestOk request)
     (λ ok. served-sane passwords request clock (ltb-true clock (2 ^ 40) (and-left (clockOk clock) (requestOk request) ok)) serial ts all)
     (λ bad. all)

@@ -18,7 +18,7 @@ use Rattle.desk.specs.Requests.{Request, DeskCall, clockOk, requestOk, loadOk}
 use Rattle.words.specs.Branches.{either}
 use Rattle.ledger.specs.Ledger.{Entry, Loaded, Reading, names, loads, loadIn, loadOf, usedOf, runOut, isQuery, entered, reading, needing, trackOf, requested, requestedOf, loadedOf, answerTo, ledgerFrom, ledger}
 use Rattle.words.specs.Lists.{oneOf}
-use Rattle.ledger.specs.Demand3.{stepIn, acceptedSteps, NothingAfterVoid}
+use Rattle.ledger.specs.Demand3.{stepIn, acceptedSteps, AfterVoid}
 use Rattle.ledger.specs.Described.{withEntry}
 use Rattle.ledger.specs.LoadsLaws.{found-serial, found-behind}
 use Rattle.ledger.specs.TokenLaws.{run-out-void, bad-argument-enters}
@@ -123,7 +123,10 @@ module _ (passwords : PasswordRule) (rows : ℕ) (history : List Entry) (serial 
 -- ---- a list of calls
 
 module _ (passwords : PasswordRule) (rows serial : ℕ) where
-  nothing-accepted : (history : List Entry) (calls : List DeskCall) → Voided serial history → acceptedSteps serial calls (ledgerFrom passwords rows history calls .answers) ≡ []
+  abbrev NoSteps : List DeskCall → List Answer → Type 0
+  NoSteps calls answers = acceptedSteps serial calls answers ≡ []
+
+  nothing-accepted : (history : List Entry) (calls : List DeskCall) → Voided serial history → NoSteps calls (ledgerFrom passwords rows history calls .answers)
   unfolding ledgerFrom acceptedSteps
   nothing-accepted history [] v = refl
   nothing-accepted history (call ∷ calls) v =
@@ -132,7 +135,7 @@ module _ (passwords : PasswordRule) (rows serial : ℕ) where
       (λ t. rw (t, call-quiet passwords rows history serial v call t .0) later)
       (λ f. rw f later)
 
-  nothing-after-void : (history : List Entry) (calls : List DeskCall) → NothingAfterVoid serial calls (ledgerFrom passwords rows history calls .answers)
+  nothing-after-void : (history : List Entry) (calls : List DeskCall) → AfterVoid serial NoSteps calls (ledgerFrom passwords rows history calls .answers)
   unfolding ledgerFrom
   nothing-after-void history [] = tt
   nothing-after-void history (call ∷ calls) =
@@ -142,5 +145,5 @@ module _ (passwords : PasswordRule) (rows serial : ℕ) where
       λ t. call-voids passwords rows history serial call (and-left (names call serial) (eqb (numberOf answer) 0x010a) t) (and-right (names call serial) (eqb (numberOf answer) 0x010a) t) in
       (λ t. nothing-accepted longer calls (voids t), nothing-after-void longer calls)
 
-  pub ledger-void-accepts-nothing : (calls : List DeskCall) → NothingAfterVoid serial calls (ledger passwords rows calls .answers)
+  pub ledger-void-accepts-nothing : (calls : List DeskCall) → AfterVoid serial NoSteps calls (ledger passwords rows calls .answers)
   ledger-void-accepts-nothing calls = nothing-after-void [] calls
