@@ -21,7 +21,7 @@ use Rattle.token.specs.OnTable.{servedAt, queriedAt}
 use Rattle.desk.specs.declared.Particulars.{Particulars}
 use Rattle.desk.specs.Requests.{Request, DeskCall, tableOk, passwordOk, challengeGiven, requestOk, loadOk}
 use Rattle.desk.specs.Desk.{requestedAt, deskAfter}
-use Rattle.desk.specs.CallLines.{rowWith, sixRows, Change, state, errors, next, offset, lockedAt, lastUse, zeroKey, Cell, cell, no, Line, line, allHold}
+use Rattle.desk.specs.CallLines.{rowWith, sixRows, Change, changed, state, errors, next, offset, lockedAt, lastUse, zeroKey, Cell, cell, no, Line, line, allHold}
 
 -- ---- accepted: before the wait has run out (clock 1059)
 
@@ -222,8 +222,80 @@ loadLines =
     }
     ∷ []
 
+-- ---- which row is the serial's, and 8402 and 8403 before everything that the row decides
+
+-- a row that is not well formed: its limit is 0
+abbrev pub damaged : List ℕ
+damaged = changed (rowWith 2 2 17 0) (record { offset = 5; bytes = 0 ∷ [] } ∷ [])
+
+-- an empty row that has the serial
+abbrev pub emptied : List ℕ
+emptied = rowWith 0 2 17 0
+
+abbrev pub ready : List ℕ
+ready = rowWith 2 2 17 0
+
+-- no row but an empty one; a damaged row, alone, before and behind a good one with the serial; an empty row before the good one
+abbrev pub foundIn : List (List ℕ)
+foundIn = replicate 96 0 ∷ emptied ∷ damaged ∷ (damaged ++ ready) ∷ (ready ++ damaged) ∷ (emptied ++ ready) ∷ []
+
+abbrev pub unfound : Request → Line
+unfound request = record { call = DeskCall.named request 9 1059; rows = emptied ∷ damaged ∷ (damaged ++ ready) ∷ []; cells = no 0x8402 ∷ no 0x8403 ∷ no 0x8403 ∷ [] }
+
+abbrev pub foundLines : List Line
+foundLines =
+    record {
+      call = DeskCall.named Request.lock 9 1059;
+      rows = foundIn;
+      cells = no 0x8402 ∷ no 0x8402 ∷ no 0x8403 ∷ no 0x8403 ∷ cell 0x0102 [] (state 4 ∷ []) ∷ cell 0x0102 [] (record { offset = 96; bytes = 4 ∷ [] } ∷ []) ∷ [];
+    }
+    ∷ unfound (Request.login (digits 17))
+    ∷ unfound (Request.challengeLogin challenge (digits 4017))
+    ∷ unfound (Request.activate (digits 17) (digits 18))
+    ∷ unfound (Request.unlock (digits 17))
+    ∷ unfound Request.suspend
+    ∷ unfound (Request.resume (digits 17))
+    ∷ unfound (Request.sync 1 (digits 17) (digits 18))
+    ∷ unfound Request.void
+    ∷ unfound Request.query
+    -- a load looks at no more than states and serials
+    ∷ record { call = loadOf 9; rows = damaged ∷ (ready ++ emptied) ∷ (emptied ++ ready) ∷ []; cells = no 0x8411 ∷ no 0x8411 ∷ no 0x8411 ∷ [] }
+    ∷ record {
+      call = loadOf 8;
+      rows = damaged ∷ (ready ++ emptied) ∷ (emptied ++ emptied) ∷ [];
+      cells = no 0x8410 ∷ cell 0x0140 [] (record { offset = 96; bytes = loadedRow 8 } ∷ []) ∷ cell 0x0140 [] (record { offset = 0; bytes = loadedRow 8 } ∷ []) ∷ [];
+    }
+    ∷ []
+
+-- ---- what is marked: d with its sign, and errors up to 255
+
+abbrev pub markedLines : List Line
+markedLines =
+    record {
+      call = DeskCall.named (Request.login (digits 15)) 9 1059;
+      rows = rowWith 2 2 15 0 ∷ [];
+      cells = cell 0x0001 (plus 15 ∷ minus 2 ∷ []) (errors 0 ∷ next 16 ∷ offset 598 ∷ lastUse 1059 ∷ []) ∷ [];
+    }
+    ∷ record {
+      call = DeskCall.named (Request.login (digits 19)) 9 1059;
+      rows = rowWith 2 2 15 0 ∷ [];
+      cells = cell 0x0001 (plus 19 ∷ plus 2 ∷ []) (errors 0 ∷ next 20 ∷ offset 602 ∷ lastUse 1059 ∷ []) ∷ [];
+    }
+    ∷ record {
+      call = DeskCall.named (Request.sync 1 (digits 17) (digits 17)) 9 1059;
+      rows = rowWith 2 253 17 0 ∷ rowWith 2 254 17 0 ∷ rowWith 2 255 17 0 ∷ [];
+      cells = cell 0x8105 [] (errors 254 ∷ []) ∷ cell 0x8105 [] (errors 255 ∷ []) ∷ no 0x8105 ∷ [];
+    }
+    -- an error held at 255 locks too; below the limit none does
+    ∷ record {
+      call = DeskCall.named (Request.login (digits 16)) 9 1059;
+      rows = rowWith 2 0 17 0 ∷ rowWith 2 1 17 0 ∷ rowWith 2 2 17 0 ∷ rowWith 2 255 17 0 ∷ [];
+      cells = cell 0x8004 [] (errors 1 ∷ []) ∷ cell 0x8004 [] (errors 2 ∷ []) ∷ cell 0x8004 [] (state 3 ∷ errors 3 ∷ lockedAt 1059 ∷ []) ∷ cell 0x8004 [] (state 3 ∷ lockedAt 1059 ∷ []) ∷ [];
+    }
+    ∷ []
+
 pub call-table-holds
-    : ((allHold acceptedLines && allHold usedLines) && (allHold wrongLines && allHold miscountedLines)) && ((allHold waitedLines && allHold expiredLines) && allHold loadLines)
+    : ((allHold acceptedLines && allHold usedLines) && (allHold wrongLines && allHold miscountedLines)) && ((allHold waitedLines && allHold expiredLines) && (allHold loadLines && (allHold foundLines && allHold markedLines)))
     ≡ true
 unfolding beAt beBytes putBe sameBytes allZero allWithin decimals challengeOk timeCandidate candidate beyond smallest checked tooFar singleCheck pairCheck
     rowAt beforeKey stepBytes timeBytes render numberTests numbersOk zerosOk wellFormed hasSerial firstRow findRow findEmpty storeRow wipeKey writeRow

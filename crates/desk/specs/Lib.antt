@@ -10,3 +10,4 @@ pub mod DeskLaws
 pub mod LoadLaws
 pub mod CallLines
 pub mod CallTable
+pub mod ArgumentTable

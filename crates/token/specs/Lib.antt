@@ -6,6 +6,5 @@ pub mod Serving
 pub mod OnTable
 pub mod StatesLaws
 pub mod ServingLaws
-pub mod CallTable
 pub mod SetCases
 pub mod OnTableLaws

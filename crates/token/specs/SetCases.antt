@@ -1,22 +1,20 @@
 -- The set cases of document 01, as a table with one proof over the definitions.
-use Prim.Native.Nat.{ℕ, zero, suc, _+_, _-_, _^_}
+use Prim.Native.Nat.{ℕ, _-_, _^_}
 use mathlib.Core.Path.{_≡_, refl}
-use mathlib.Core.Bool.{Bool, true, cond, not, _&&_}
+use mathlib.Core.Bool.{Bool, true, not, _&&_}
 use mathlib.Core.List.{List, [], _∷_, _++_}
 use lib.Dec.{eqb}
 use lib.ListN.{replicate}
 use Rattle.words.specs.Bytes.{beAt, beBytes}
 use Rattle.words.specs.Lists.{sameBytes}
-use Rattle.window.specs.declared.Size.{Size}
 use Rattle.window.specs.declared.Size.the-variants.{Small}
-use Rattle.window.specs.declared.Track.{Track}
 use Rattle.window.specs.Window.{timeCandidate, eventCandidate, candidate}
+use Rattle.window.specs.WindowTable.{timeTrack, eventTrack, candidatesFrom}
 use Rattle.window.specs.declared.Outcome.{Outcome}
 use Rattle.row.specs.declared.Row.{Row}
 use Rattle.token.specs.declared.calls.Call.{Call}
 use Rattle.token.specs.States.{waitOver, waited, failed}
 use Rattle.token.specs.Serving.{serving}
-use Rattle.token.specs.CallTable.{tokenIn}
 use Rattle.otp.specs.declared.Factor.the-variants.{Absent, Present}
 use Rattle.otp.specs.Password.{factorBytes, idOf, filled, blockSum, wordSum, cut, decimals, shown}
 
@@ -46,17 +44,21 @@ text446720 = 0x34 ∷ 0x34 ∷ 0x36 ∷ 0x37 ∷ 0x32 ∷ 0x30 ∷ []
 abbrev pub text5678 : List ℕ
 text5678 = 0x35 ∷ 0x36 ∷ 0x37 ∷ 0x38 ∷ []
 
--- tokens of the cases: a period and d + 600, or a first unused step
-abbrev pub timeTrack : ℕ → ℕ → Track
-timeTrack period offset = record { rule = record { kind = 0; algorithm = 3; digits = 6 }; period = period; next = record { 0 = 0 }; offset = record { 0 = offset } }
-
-abbrev pub eventTrack : ℕ → Track
-eventTrack next = record { rule = record { kind = 1; algorithm = 3; digits = 6 }; period = 0; next = record { 0 = next }; offset = record { 0 = 600 } }
-
--- the candidates among `count` steps, from a step on; `candidates-are-range` says that there are no gaps
-unfoldable pub candidatesFrom : ℕ → ℕ → Track → ℕ → Size → List ℕ
-candidatesFrom s zero k clock size = []
-candidatesFrom s (suc count) k clock size = cond (candidate k clock size s) (s ∷ []) [] ++ candidatesFrom (s + 1) count k clock size
+-- a token in a state: limit 3, two errors, wait 60, locked at 1000 if locked by errors
+abbrev pub tokenIn : ℕ → ℕ → Row
+tokenIn state locked =
+    record {
+      state = state;
+      track = eventTrack 7;
+      limit = 3;
+      errors = 2;
+      length = 16;
+      serial = 9;
+      wait = 60;
+      expiry = record { 0 = 5000 };
+      locked = record { 0 = locked };
+      used = record { 0 = 500 };
+    }
 
 -- a token without errors whose limit is 1
 abbrev pub limitOne : Row → Row

@@ -1,0 +1,164 @@
+-- The arguments of the calls (document 01, "What a turned-down call says", 9005), as a table with one proof through the desk: each at both ends of its
+-- range, where it is taken, and beyond them, where the call is refused and no byte changes.
+use Prim.Native.Nat.{ℕ, _+_, _-_, _*_, _^_}
+use mathlib.Core.Path.{_≡_, refl}
+use mathlib.Core.Bool.{Bool, true, not, _&&_}
+use mathlib.Core.List.{List, [], _∷_, _++_}
+use lib.Dec.{eqb}
+use lib.ListN.{length, replicate}
+use Rattle.words.specs.Bytes.{beAt, beBytes, putBe}
+use Rattle.words.specs.Lists.{sameBytes, allZero, allWithin}
+use Rattle.otp.specs.Password.{decimals, challengeOk}
+use Rattle.window.specs.Window.{timeCandidate, candidate, beyond}
+use Rattle.window.specs.Check.{smallest, checked}
+use Rattle.window.specs.TokenCheck.{tooFar, singleCheck, pairCheck}
+use Rattle.row.specs.Row.{rowAt, numberTests, numbersOk, zerosOk, wellFormed}
+use Rattle.row.specs.Table.{hasSerial, firstRow, findRow, findEmpty, storeRow, wipeKey}
+use Rattle.token.specs.Codes.{numberOf}
+use Rattle.token.specs.States.{waitOver, waited, moved, accepted, failed}
+use Rattle.token.specs.Serving.{serving, served, querying}
+use Rattle.token.specs.OnTable.{Result, servedAt, queriedAt}
+use Rattle.desk.specs.declared.Particulars.{Particulars}
+use Rattle.desk.specs.Requests.{Request, DeskCall, tableOk, passwordOk, challengeGiven, requestOk, loadOk}
+use Rattle.desk.specs.Desk.{requestedAt, deskAfter}
+use Rattle.desk.specs.CallLines.{rowWith, bySteps}
+
+-- a ready token with the serial 9 is all of the table
+abbrev pub oneRow : List ℕ
+oneRow = rowWith 2 2 17 0
+
+-- ---- the calls' own arguments
+
+abbrev pub isRefused : Result → Bool
+isRefused x = eqb (numberOf (x .answer)) 0x9005
+
+abbrev pub allTaken : List DeskCall → Bool
+allTaken [] = true
+allTaken (call ∷ calls) = not (isRefused (deskAfter bySteps call oneRow)) && allTaken calls
+
+abbrev pub allRefused : List DeskCall → Bool
+allRefused [] = true
+allRefused (call ∷ calls) = (isRefused (deskAfter bySteps call oneRow) && sameBytes (deskAfter bySteps call oneRow .table) oneRow) && allRefused calls
+
+-- a request to that token at a clock reading
+abbrev pub ask : Request → ℕ → DeskCall
+ask request clock = DeskCall.named request 9 clock
+
+abbrev pub digits : List ℕ
+digits = replicate 6 0x30
+
+-- the clock is below 2^40, of every call but load
+abbrev pub timed : ℕ → List DeskCall
+timed clock =
+    ask (Request.login digits) clock
+    ∷ ask (Request.challengeLogin (replicate 4 0x21) digits) clock
+    ∷ ask (Request.activate digits digits) clock
+    ∷ ask Request.lock clock
+    ∷ ask (Request.unlock digits) clock
+    ∷ ask Request.suspend clock
+    ∷ ask (Request.resume digits) clock
+    ∷ ask (Request.sync 1 digits digits) clock
+    ∷ ask Request.void clock
+    ∷ ask Request.query clock
+    ∷ []
+
+-- a password in each place that has one
+abbrev pub presented : List ℕ → List DeskCall
+presented p =
+    ask (Request.login p) 1059
+    ∷ ask (Request.challengeLogin (replicate 4 0x21) p) 1059
+    ∷ ask (Request.activate p digits) 1059
+    ∷ ask (Request.activate digits p) 1059
+    ∷ ask (Request.unlock p) 1059
+    ∷ ask (Request.resume p) 1059
+    ∷ ask (Request.sync 1 p digits) 1059
+    ∷ ask (Request.sync 2 digits p) 1059
+    ∷ []
+
+abbrev pub challenged : List ℕ → List DeskCall
+challenged q = ask (Request.challengeLogin q digits) 1059 ∷ []
+
+abbrev pub chosen : ℕ → List DeskCall
+chosen choice = ask (Request.sync choice digits digits) 1059 ∷ []
+
+-- 6 to 10 ASCII digits; 4 to 32 bytes, each 21 to 7e; sync 1 or 2
+abbrev pub takenCalls : List DeskCall
+takenCalls =
+    timed 0
+    ++ (timed (2 ^ 40 - 1)
+    ++ (presented (replicate 6 0x30)
+    ++ (presented (replicate 6 0x39)
+    ++ (presented (replicate 10 0x30)
+    ++ (challenged (replicate 4 0x21) ++ (challenged (replicate 32 0x21) ++ (challenged (replicate 4 0x7e) ++ (chosen 1 ++ chosen 2))))))))
+
+abbrev pub refusedCalls : List DeskCall
+refusedCalls =
+    timed (2 ^ 40)
+    ++ (presented []
+    ++ (presented (replicate 5 0x30)
+    ++ (presented (replicate 11 0x30)
+    ++ (presented (0x2f ∷ replicate 5 0x30)
+    ++ (presented (replicate 5 0x30 ++ (0x3a ∷ []))
+    ++ (challenged []
+    ++ (challenged (replicate 3 0x21)
+    ++ (challenged (replicate 33 0x21)
+    ++ (challenged (0x20 ∷ replicate 3 0x21) ++ (challenged (replicate 3 0x21 ++ (0x7f ∷ [])) ++ (chosen 0 ++ chosen 3)))))))))))
+
+-- ---- a load's values; a load that is taken finds the table full
+
+abbrev pub loading : ℕ → ℕ → ℕ → ℕ → ℕ → ℕ → ℕ → ℕ → ℕ → DeskCall
+loading serial kind algorithm digits period limit keyLength wait expiry =
+    DeskCall.load
+    (record { serial = serial; rule = record { kind = kind; algorithm = algorithm; digits = digits }; period = period; limit = limit; wait = wait; expiry = record { 0 = expiry } })
+    (replicate keyLength 7)
+
+abbrev pub takenLoads : List DeskCall
+takenLoads =
+    loading 0 0 3 6 1 1 16 60 0
+    ∷ loading (2 ^ 64 - 1) 0 4 10 60 10 32 86400 (2 ^ 40)
+    ∷ loading 1 1 3 6 0 5 16 60 0
+    ∷ []
+
+-- one value of a load that would be taken is beyond its range
+abbrev pub refusedLoads : List DeskCall
+refusedLoads =
+    loading (2 ^ 64) 0 3 6 30 5 16 60 0
+    ∷ loading 1 2 3 6 0 5 16 60 0
+    ∷ loading 1 0 2 6 30 5 16 60 0
+    ∷ loading 1 0 5 6 30 5 16 60 0
+    ∷ loading 1 0 3 5 30 5 16 60 0
+    ∷ loading 1 0 3 11 30 5 16 60 0
+    ∷ loading 1 0 3 6 0 5 16 60 0
+    ∷ loading 1 0 3 6 61 5 16 60 0
+    ∷ loading 1 1 3 6 1 5 16 60 0
+    ∷ loading 1 0 3 6 30 0 16 60 0
+    ∷ loading 1 0 3 6 30 11 16 60 0
+    ∷ loading 1 0 3 6 30 5 15 60 0
+    ∷ loading 1 0 3 6 30 5 33 60 0
+    ∷ loading 1 0 3 6 30 5 16 59 0
+    ∷ loading 1 0 3 6 30 5 16 86401 0
+    ∷ loading 1 0 3 6 30 5 16 60 (2 ^ 40 + 1)
+    ∷ []
+
+pub arguments-hold : (allTaken takenCalls && allRefused refusedCalls) && (allTaken takenLoads && allRefused refusedLoads) ≡ true
+unfolding beAt beBytes putBe sameBytes allZero allWithin decimals challengeOk timeCandidate candidate beyond smallest checked tooFar singleCheck pairCheck
+    rowAt numberTests numbersOk zerosOk wellFormed hasSerial firstRow findRow findEmpty storeRow wipeKey
+    waitOver waited moved accepted failed serving served querying servedAt queriedAt tableOk passwordOk challengeGiven requestOk loadOk requestedAt deskAfter
+arguments-hold = refl
+
+-- ---- the table has 96 times 1 to 256 bytes
+
+abbrev pub takenLengths : Bool
+takenLengths = tableOk (replicate 96 0) && tableOk (replicate (96 * 256) 0)
+
+abbrev pub refusedLengths : Bool
+refusedLengths = (not (tableOk []) && not (tableOk (replicate 95 0))) && (not (tableOk (replicate 97 0)) && not (tableOk (replicate (96 * 257) 0)))
+
+pub table-lengths-hold : takenLengths && refusedLengths ≡ true
+unfolding tableOk
+table-lengths-hold = refl
+
+-- and a call on a table of another length is refused, load included
+pub other-lengths-refused : (isRefused (deskAfter bySteps (ask Request.query 0) []) && isRefused (deskAfter bySteps (loading 0 0 3 6 1 1 16 60 0) (replicate 97 0))) ≡ true
+unfolding tableOk deskAfter
+other-lengths-refused = refl
