@@ -18,15 +18,19 @@ use Rattle.desk.specs.Desk.{deskAfter}
 
 -- ---- a row, and what a call changes of it
 
--- a time token by its state, errors, first unused step and `locked at`: SM3, six digits, period 60, limit 3, serial 9, d 0, wait 60, expiry 5000, last use 500
-abbrev pub rowWith : ℕ → ℕ → ℕ → ℕ → List ℕ
-rowWith state errors next locked =
-    (state ∷ 0 ∷ 3 ∷ 6 ∷ 60 ∷ 3 ∷ errors ∷ 16 ∷ [])
+-- a token by its kind, period, state, errors, first unused step and `locked at`: SM3, six digits, limit 3, serial 9, d 0, wait 60, expiry 5000, last use 500
+abbrev pub rowBy : ℕ → ℕ → ℕ → ℕ → ℕ → ℕ → List ℕ
+rowBy kind period state errors next locked =
+    (state ∷ kind ∷ 3 ∷ 6 ∷ period ∷ 3 ∷ errors ∷ 16 ∷ [])
     ++ (beBytes 8 9
     ++ ((replicate 16 7 ++ replicate 16 0)
     ++ (beBytes 8 next
     ++ (beBytes 2 600
     ++ (replicate 2 0 ++ (beBytes 4 60 ++ (beBytes 8 5000 ++ (beBytes 8 locked ++ (beBytes 8 500 ++ replicate 8 0)))))))))
+
+-- a time token whose period is 60
+abbrev pub rowWith : ℕ → ℕ → ℕ → ℕ → List ℕ
+rowWith state errors next locked = rowBy 0 60 state errors next locked
 
 -- the rows in states 1 to 6, with two errors and first unused step 17, which is T at the clocks 1059 and 1060; the lock by errors was at 1000
 abbrev pub sixRows : List (List ℕ)

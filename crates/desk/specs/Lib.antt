@@ -11,3 +11,4 @@ pub mod LoadLaws
 pub mod CallLines
 pub mod CallTable
 pub mod ArgumentTable
+pub mod EventMarks
