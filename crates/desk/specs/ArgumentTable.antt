@@ -5,7 +5,7 @@ use mathlib.Core.Path.{_≡_, refl}
 use mathlib.Core.Bool.{Bool, true, not, _&&_}
 use mathlib.Core.List.{List, [], _∷_, _++_}
 use lib.Dec.{eqb}
-use lib.ListN.{length, replicate}
+use lib.ListN.{replicate}
 use Rattle.words.specs.Bytes.{beAt, beBytes, putBe}
 use Rattle.words.specs.Lists.{sameBytes, allZero, allWithin}
 use Rattle.otp.specs.Password.{decimals, challengeOk}
@@ -18,7 +18,6 @@ use Rattle.token.specs.Codes.{numberOf}
 use Rattle.token.specs.States.{waitOver, waited, moved, accepted, failed}
 use Rattle.token.specs.Serving.{serving, served, querying}
 use Rattle.token.specs.OnTable.{Result, servedAt, queriedAt}
-use Rattle.desk.specs.declared.Particulars.{Particulars}
 use Rattle.desk.specs.Requests.{Request, DeskCall, tableOk, passwordOk, challengeGiven, requestOk, loadOk}
 use Rattle.desk.specs.Desk.{requestedAt, deskAfter}
 use Rattle.desk.specs.CallLines.{rowWith, bySteps}

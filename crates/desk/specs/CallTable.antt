@@ -18,7 +18,6 @@ use Rattle.token.specs.Codes.Signed.{plus, minus}
 use Rattle.token.specs.States.{waitOver, waited, moved, accepted, failed}
 use Rattle.token.specs.Serving.{serving, served, querying}
 use Rattle.token.specs.OnTable.{servedAt, queriedAt}
-use Rattle.desk.specs.declared.Particulars.{Particulars}
 use Rattle.desk.specs.Requests.{Request, DeskCall, tableOk, passwordOk, challengeGiven, requestOk, loadOk}
 use Rattle.desk.specs.Desk.{requestedAt, deskAfter}
 use Rattle.desk.specs.CallLines.{rowWith, sixRows, Change, changed, state, errors, next, offset, lockedAt, lastUse, zeroKey, Cell, cell, no, Line, line, allHold}

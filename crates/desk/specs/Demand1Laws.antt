@@ -87,17 +87,17 @@ request-listed Request.query = record { success = refl; wipes = refl; states = r
 
 -- ---- a row that is found and well formed is in one of the states 1 to 6
 
-abbrev Standing : ℕ → Type 0
+abbrev pub Standing : ℕ → Type 0
 Standing state = (eqb state empty ≡ false) × (state < 7)
 
-found-standing : (s : List ℕ) (serial at : ℕ) → findRow s serial ≡ Place.At at → wellFormed s at ≡ true → Standing (rowAt s at .state)
+pub found-standing : (s : List ℕ) (serial at : ℕ) → findRow s serial ≡ Place.At at → wellFormed s at ≡ true → Standing (rowAt s at .state)
 unfolding rowAt hasSerial numbersOk numberTests
 found-standing s serial at e ok =
     let taken = and-left (not (isEmpty s at)) (eqb (beAt 8 s (at + 8)) serial) (found-has s serial at e) in
     let known : leb (getD s (at + 0) 0) 6 ≡ true = search (and-left, numbers-of s at ok) in
     (not-true (isEmpty s at) taken, omega (arith, leb-true (getD s (at + 0) 0) 6 known))
 
-waited-standing : (r : Row) (clock : ℕ) → Standing (r .state) → Standing (waited r clock .state)
+pub waited-standing : (r : Row) (clock : ℕ) → Standing (r .state) → Standing (waited r clock .state)
 unfolding waited
 waited-standing r clock h = either (λ (x : Row). Standing (x .state)) (waitOver r clock) (refl, omega arith) h
 

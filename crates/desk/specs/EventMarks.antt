@@ -3,7 +3,7 @@
 use Prim.Native.Nat.{ℕ, _<_}
 use mathlib.Core.Path.{_≡_, refl}
 use mathlib.Core.Bool.{Bool, true, false, not}
-use mathlib.Core.List.{List, [], _∷_, _++_}
+use mathlib.Core.List.{[], _∷_}
 use borrow.Author.Tests.{not-true}
 use lib.ListN.{replicate, length-replicate}
 use Rattle.words.specs.Bytes.{beAt, beBytes, putBe}
@@ -11,7 +11,6 @@ use Rattle.words.specs.Lists.{sameBytes, allZero, allWithin}
 use Rattle.words.specs.Tables.{every, entry-rule}
 use Rattle.otp.specs.Password.{decimals}
 use Rattle.window.specs.declared.Size.the-variants.{Small, Large}
-use Rattle.window.specs.declared.Track.{Track}
 use Rattle.window.specs.declared.Outcome.the-variants.{Accepted}
 use Rattle.window.specs.Window.{eventCandidate, candidate}
 use Rattle.window.specs.WindowTable.{eventTrack}

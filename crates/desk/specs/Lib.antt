@@ -12,3 +12,5 @@ pub mod CallLines
 pub mod CallTable
 pub mod ArgumentTable
 pub mod EventMarks
+pub mod FirstLine
+pub mod FirstLineLaws
