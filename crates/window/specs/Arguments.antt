@@ -8,7 +8,7 @@ use lib.Dec.{eqb, leb, ltb}
 use Rattle.words.specs.Tables.{and-left, and-right}
 use Rattle.window.specs.declared.Track.{Track}
 use Rattle.window.specs.Window.{timeToken, farthest, Sound}
-use Rattle.window.specs.PasswordAtLaws.{inRange}
+use Rattle.window.specs.PasswordAt.{inRange}
 
 abbrev pub eventToken : ℕ
 eventToken = 1

@@ -8,7 +8,7 @@ use otp::Factor;
 use otp::arguments_ok;
 ghost use mathlib.Core.Path.{_≡_};
 ghost use Rattle.window.specs.Arguments.{soundTest, checkable};
-ghost use Rattle.window.specs.PasswordAtLaws.{inRange};
+ghost use Rattle.window.specs.PasswordAt.{inRange};
 
 const EVENT_TOKEN: u8 = 1;
 

@@ -1,7 +1,7 @@
 use mathlib.Core.Path.{sym, _∙_}
 use borrow.Author.Tests.{not-true, not-false}
 use Rattle.words.specs.Tables.{and-left, and-right}
-use Rattle.window.specs.PasswordAtLaws.{inRange}
+use Rattle.window.specs.PasswordAt.{inRange}
 use Rattle.window.specs.Arguments.{soundTest, test-sound}
 use Rattle.capi.specs.Checked.{trackOf, check-refused, check-unstored, check-unsized, check-made}
 use borrow.Author.Needs.{needs}
