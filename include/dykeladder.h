@@ -241,22 +241,29 @@ uint16_t dl_password(uint8_t algorithm, const uint8_t *key, size_t key_len,
  *   kind       DL_TIME_TOKEN or DL_EVENT_TOKEN
  *   algorithm  DL_ALGORITHM_SM3 or DL_ALGORITHM_SM4
  *   digits     of the token's passwords, 6 to 10
- *   period     in seconds, 1 or more for a time token; an event token has none
- *   next       the first unused step, at most 2^40 + 600
- *   offset     the token's offset d, from -600 to 600, plus 600
+ *   period     in seconds, 1 to 60 for a time token, 0 for an event token
+ *   next       the first unused step, at most 2^40 + 600 for a time token, at
+ *              most 2^32 for an event token
+ *   offset     the token's offset d plus 600: 0 to 1200 for a time token, 600
+ *              for an event token
  *   now        the clock in seconds, below 2^40
  *   size       DL_SMALL, DL_MEDIUM or DL_LARGE
- *   key        key_len is 16 to 32
- *   challenge  as for dl_password
- *   presented  the password; one of another length than `digits` is wrong
- *   following  the password of the next step; following_len is 0 where only
- *              one password is checked
+ *   key        key_len is 16 to 32; SM4 uses the first 16 bytes
+ *   challenge  the challenge Q of a single password: challenge_len is 4 to 32
+ *              and each byte 0x21 to 0x7e, or challenge_len is 0 and the
+ *              challenge absent, as it always is for two passwords
+ *   presented  the password typed in; presented_len is 6 to 10 and each byte
+ *              an ASCII digit. A number of digits that is not `digits` is in
+ *              range, and wrong
+ *   following  the password of the step after it, likewise; following_len is
+ *              0 where only one password is checked
  *   step       takes the accepted step in its first element: the smallest
  *              unused one that matches, or the one after it for two
  *              passwords; step_len is 1 or more
  *
- * Returns DL_DONE, DL_TOO_FAR, DL_USED, DL_WRONG or DL_BAD_ARGUMENT. Only
- * DL_DONE writes.
+ * Returns DL_BAD_ARGUMENT if an argument is out of its range; DL_DONE if an
+ * unused step of the window matches, DL_USED if only used ones do, DL_WRONG if
+ * none does. DL_TOO_FAR never comes. Only DL_DONE writes.
  */
 uint16_t dl_check(uint8_t kind, uint8_t algorithm, uint8_t digits,
                   uint8_t period, uint64_t next, uint16_t offset,

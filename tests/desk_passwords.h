@@ -13,27 +13,6 @@ enum sort {
 
 // ---- typists
 
-// 6 to 10 digits, but not as many as the token's; those that both have are the same.
-static inline int change_count(struct window_typed *typed)
-{
-    size_t n = random_between(OTP_LEAST_DIGITS, OTP_MOST_DIGITS - 1);
-    n += n >= typed->len;
-    for (size_t i = typed->len; i < n; i++)
-        typed->bytes[i] = random_between('0', '9');
-    typed->len = n;
-    return 1;
-}
-
-static inline int other_count(struct window_call *token)
-{
-    return fresh_step(token) && change_count(&token->presented);
-}
-
-static inline int pair_other_count(struct window_call *token)
-{
-    return fresh_pair(token) && change_count(one_in(2) ? &token->presented : &token->following);
-}
-
 static inline int pair_other_length(struct window_call *token)
 {
     return one_in(2) ? first_other_length(token) : second_other_length(token);

@@ -107,22 +107,9 @@ static inline uint16_t desk_wrong_code(enum desk_name name)
 
 // ---- arguments
 
-static inline int desk_bytes_between(const struct window_typed *typed, uint8_t least, uint8_t most)
-{
-    for (size_t i = 0; i < typed->len; i++)
-        if (typed->bytes[i] < least || typed->bytes[i] > most)
-            return 0;
-    return 1;
-}
-
-static inline int desk_password_in_range(const struct window_typed *typed)
-{
-    return OTP_LEAST_DIGITS <= typed->len && typed->len <= OTP_MOST_DIGITS && desk_bytes_between(typed, '0', '9');
-}
-
 static inline int desk_challenge_in_range(const struct window_typed *typed)
 {
-    return OTP_LEAST_CHALLENGE <= typed->len && typed->len <= OTP_MOST_CHALLENGE && desk_bytes_between(typed, 0x21, 0x7e);
+    return OTP_LEAST_CHALLENGE <= typed->len && typed->len <= OTP_MOST_CHALLENGE && window_bytes_between(typed, 0x21, 0x7e);
 }
 
 static inline int desk_load_in_range(const struct desk_load *load)
@@ -148,8 +135,8 @@ static inline int desk_in_range(const struct desk_call *call)
     return call->now < CLOCK_END && (desk_values(call->name) == 0 || call->values_len >= DL_MOST_VALUES)
         && (call->name != CALL_CHALLENGE_LOGIN || desk_challenge_in_range(&call->challenge))
         && (call->name != CALL_SYNC || call->choice == 1 || call->choice == 2)
-        && (rule->check == NO_CHECK || desk_password_in_range(&call->password))
-        && (rule->check != PAIR || desk_password_in_range(&call->following));
+        && (rule->check == NO_CHECK || window_is_password(&call->password))
+        && (rule->check != PAIR || window_is_password(&call->following));
 }
 
 // ---- rows of the table

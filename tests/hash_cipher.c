@@ -88,16 +88,32 @@ static void sm3_short_digest(void)
 
 static const size_t longest = UINT32_MAX;
 
-// The padding's count of bits passes 32 bits at 2^29 bytes.
-static void sm3_long_bit_count(void)
+// The first n of a message's bytes, where OpenSSL has hashed the first `hashed` of them before.
+static void openssl_sm3_further(EVP_MD_CTX *begun, const uint8_t *message, size_t hashed, size_t n, uint8_t *digest)
 {
-    const size_t n = 1 << 29;
-    uint8_t *zeros = map_zeros(n, PROT_READ), expected[DL_SM3_DIGEST_BYTES];
-    lend();
-    uint16_t code = dl_sm3(zeros, n, lent, DL_SM3_DIGEST_BYTES);
-    openssl_sm3(zeros, n, expected);
-    check(gave(code, expected, sizeof expected), "dl_sm3 of 2^29 bytes");
-    munmap(zeros, n);
+    EVP_MD_CTX *ended = EVP_MD_CTX_new();
+    if (ended == NULL || EVP_DigestUpdate(begun, message + hashed, n - hashed) != 1 || EVP_MD_CTX_copy_ex(ended, begun) != 1
+        || EVP_DigestFinal_ex(ended, digest, NULL) != 1)
+        die("OpenSSL hashes no long message");
+    EVP_MD_CTX_free(ended);
+}
+
+// The padding's count of bits passes 32 bits at 2^29 bytes, 33 at 2^30 and 34 at 2^31; the last length is the longest.
+static void sm3_great_lengths(void)
+{
+    const size_t lengths[] = {(size_t)1 << 29, (size_t)1 << 30, (size_t)1 << 31, longest};
+    uint8_t *zeros = map_zeros(longest, PROT_READ), expected[DL_SM3_DIGEST_BYTES];
+    EVP_MD_CTX *begun = EVP_MD_CTX_new();
+    if (begun == NULL || EVP_DigestInit_ex(begun, EVP_sm3(), NULL) != 1)
+        die("OpenSSL has no SM3");
+    for (size_t i = 0, hashed = 0; i < sizeof lengths / sizeof *lengths; hashed = lengths[i++]) {
+        lend();
+        uint16_t code = dl_sm3(zeros, lengths[i], lent, DL_SM3_DIGEST_BYTES);
+        openssl_sm3_further(begun, zeros, hashed, lengths[i], expected);
+        check(gave(code, expected, sizeof expected), "dl_sm3 of %zu bytes", lengths[i]);
+    }
+    EVP_MD_CTX_free(begun);
+    munmap(zeros, longest);
 }
 
 static void sm3_too_long(void)
@@ -283,7 +299,7 @@ static const struct test tests[] = {
     {"SM3, every length from 0 to 300", sm3_every_length, 0},
     {"SM3, lengths around multiples of 64", sm3_around_blocks, 0},
     {"SM3, lengths up to 1 MiB", sm3_long_messages, 1},
-    {"SM3, a bit count past 32 bits", sm3_long_bit_count, 1},
+    {"SM3, 2^29 bytes up to 2^32 - 1", sm3_great_lengths, 1},
     {"SM3, bytes past the digest stay", sm3_past_the_digest, 0},
     {"SM3 refuses a digest under 32 bytes", sm3_short_digest, 0},
     {"SM3 refuses 2^32 bytes and more", sm3_too_long, 1},

@@ -80,7 +80,7 @@ static void nothing_to_check(void)
     uint64_t step = 0;
     REFUSED(dl_check(event, sm4, 6, 0, 0, 600, 0, DL_SMALL, NULL, 0, NULL, 0, digits, 6, NULL, 0, &step, 1));
     REFUSED(dl_check(event, sm4, 6, 0, 0, 600, 0, DL_SMALL, sixteen, 16, NULL, 0, digits, 6, NULL, 0, NULL, 0));
-    ANSWERS(DL_WRONG, dl_check(event, sm4, 6, 0, 0, 600, 0, DL_SMALL, sixteen, 16, NULL, 0, NULL, 0, NULL, 0, &step, 1));
+    REFUSED(dl_check(event, sm4, 6, 0, 0, 600, 0, DL_SMALL, sixteen, 16, NULL, 0, NULL, 0, NULL, 0, &step, 1));
     ANSWERS(DL_WRONG, dl_check(event, sm4, 6, 0, 0, 600, 0, DL_SMALL, sixteen, 16, NULL, 0, digits, 6, NULL, 0, &step, 1));
 }
 

@@ -186,9 +186,7 @@ static void shared_passwords(void)
     struct twins pair;
     struct row_case made;
     for (size_t i = 0; i < cases; i++) {
-        do
-            make_neighbours(&pair, i);
-        while (!fits_row(&pair.token));
+        make_neighbours(&pair, i);
         pair.token.size = DL_SMALL;
         make_shared_password(&made, &pair, both_fresh);
         expect_step(&made, pair.first);

@@ -29,23 +29,16 @@ static inline size_t any_call(void)
 
 // ---- the row's token
 
-// No token of the document has another period, and no event token a count past the last.
-static inline int fits_row(const struct window_call *token)
-{
-    return token->kind == DL_TIME_TOKEN ? token->period <= ROW_MOST_PERIOD : token->next <= (uint64_t)COUNT_END;
-}
-
 static inline void put_token(uint8_t *row, const struct window_call *token)
 {
-    int is_time = token->kind == DL_TIME_TOKEN;
     memset(row, 0, DL_ROW_BYTES);
     row_put(row, ROW_KIND, token->kind);
     row_put(row, ROW_ALGORITHM, token->algorithm);
     row_put(row, ROW_DIGITS, token->digits);
-    row_put(row, ROW_PERIOD, is_time ? token->period : 0);
+    row_put(row, ROW_PERIOD, token->period);
     row_put_key(row, token->key, token->key_len);
     row_put(row, ROW_NEXT, token->next);
-    row_put(row, ROW_OFFSET, is_time ? token->offset : WINDOW_FARTHEST);
+    row_put(row, ROW_OFFSET, token->offset);
 }
 
 // ---- the row's standing
@@ -114,7 +107,7 @@ static inline void make_typed(struct row_case *made, size_t variant, token_maker
         make(&token);
         put_token(made->row, &token);
         made->call.now = token.now;
-    } while (!fits_row(&token) || !type_password(&made->call, made->row, sort == ANY_SORT ? any_sort() : sort));
+    } while (!type_password(&made->call, made->row, sort == ANY_SORT ? any_sort() : sort));
     made->call.serial = random_number();
     row_put(made->row, ROW_SERIAL, made->call.serial);
 }

@@ -23,7 +23,7 @@ static const struct {
 enum {
     ROW_MOST_LIMIT = 10,
     ROW_MOST_ERRORS = 255,
-    ROW_MOST_PERIOD = 60, // in seconds
+    ROW_MOST_PERIOD = WINDOW_MOST_PERIOD,
     ROW_LEAST_WAIT = 60,
     ROW_MOST_WAIT = 86400,
 };

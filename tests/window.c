@@ -26,9 +26,10 @@ static void single_used(void) { sweep(any_token, used_step, USED); }
 static void single_before(void) { sweep(any_token, step_before, WRONG); }
 static void single_behind(void) { sweep(any_token, step_behind, WRONG); }
 static void single_random(void) { sweep(any_token, random_digits, WRONG); }
-static void single_length(void) { sweep(any_token, other_length, WRONG); }
-static void single_no_digit(void) { sweep(any_token, no_digit, WRONG); }
-static void single_no_byte(void) { sweep(any_token, no_byte, WRONG); }
+static void single_count(void) { sweep(any_token, other_count, WRONG); }
+static void single_length(void) { sweep(any_token, other_length, WRONG | BAD); }
+static void single_no_digit(void) { sweep(any_token, no_digit, BAD); }
+static void single_no_byte(void) { sweep(any_token, no_byte, BAD); }
 
 static void pair_fresh(void) { sweep(pair_token, fresh_pair, DONE); }
 static void pair_used(void) { sweep(pair_token, used_pair, USED); }
@@ -40,10 +41,11 @@ static void pair_first_before(void) { sweep(pair_token, first_before, WRONG); }
 static void pair_same_twice(void) { sweep(pair_token, same_twice, WRONG); }
 static void pair_turned_round(void) { sweep(pair_token, turned_round, WRONG); }
 static void pair_one_left_out(void) { sweep(pair_token, one_left_out, WRONG); }
-static void pair_second_length(void) { sweep(pair_token, second_other_length, WRONG); }
-static void pair_first_length(void) { sweep(pair_token, first_other_length, WRONG); }
-static void pair_bytes(void) { sweep(pair_token, pair_no_digit, WRONG); }
-static void pair_challenge(void) { sweep(challenged_token, any_pair, DONE | USED | WRONG); }
+static void pair_count(void) { sweep(pair_token, pair_other_count, WRONG); }
+static void pair_second_length(void) { sweep(pair_token, second_other_length, WRONG | BAD); }
+static void pair_first_length(void) { sweep(pair_token, first_other_length, WRONG | BAD); }
+static void pair_bytes(void) { sweep(pair_token, pair_no_digit, BAD); }
+static void pair_challenge(void) { sweep(challenged_token, challenged_pair, BAD); }
 
 static void edge_empty(void) { sweep(empty_window, anything, WRONG); }
 static void edge_offset(void) { sweep(farthest_offset, anything, DONE | USED | WRONG); }
@@ -60,7 +62,6 @@ static void edge_first_counts(void) { sweep(first_counts, anything, DONE | USED 
 static void edge_last_counts(void) { sweep(last_counts, anything, DONE | USED | WRONG); }
 static void edge_count_end(void) { sweep(counts_at_end, any_single, USED | WRONG); }
 static void edge_count_end_pair(void) { sweep(counts_at_end, any_pair, WRONG); }
-static void edge_past_counts(void) { sweep(counts_past_end, anything, WRONG); }
 
 // ---- every combination
 
@@ -93,10 +94,10 @@ static void random_calls(void)
 {
     struct window_call call;
     for (size_t i = 0; i < 10 * cases; i++) {
-        make_call(&call, any_token, anything);
+        make_call(&call, any_token, anything_or_misfit);
         compare(&call);
     }
-    came_up(DONE | USED | WRONG);
+    came_up(DONE | USED | WRONG | BAD);
 }
 
 static const struct test tests[] = {
@@ -112,7 +113,8 @@ static const struct test tests[] = {
     {"single, the step before the window", single_before, 0},
     {"single, the step behind the window", single_behind, 0},
     {"single, random digits", single_random, 0},
-    {"single, another number of digits", single_length, 0},
+    {"single, 6 to 10 digits, but not as many as the token's", single_count, 0},
+    {"single, another length", single_length, 0},
     {"single, bytes that are no digits", single_no_digit, 0},
     {"single, an empty password", single_no_byte, 0},
     {"pair, fresh", pair_fresh, 0},
@@ -125,6 +127,7 @@ static const struct test tests[] = {
     {"pair, both passwords equal", pair_same_twice, 0},
     {"pair, turned round", pair_turned_round, 0},
     {"pair, a step left out", pair_one_left_out, 0},
+    {"pair, one of 6 to 10 digits, but not as many as the token's", pair_count, 0},
     {"pair, second password of another length", pair_second_length, 0},
     {"pair, first password of another length or empty", pair_first_length, 0},
     {"pair, bytes that are no digits", pair_bytes, 0},
@@ -139,18 +142,18 @@ static const struct test tests[] = {
     {"time, clock 2^40 - 1 and next 2^40 + 600", edge_last_next, 0},
     {"time, clock 0", edge_clock_zero, 0},
     {"time, windows cut at step 0", edge_early_clock, 0},
-    {"time, first and last second of a step, period 1, 60 and 255", edge_period, 0},
+    {"time, first and last second of a step, period 1 and 60", edge_period, 0},
     {"event, next 0 to 2", edge_first_counts, 0},
     {"event, next 2^32 - 60 to 2^32", edge_last_counts, 0},
     {"event, next 2^32, single", edge_count_end, 0},
     {"event, next 2^32, pair", edge_count_end_pair, 0},
-    {"event, next above 2^32", edge_past_counts, 0},
     {"two fresh steps with one password: the smaller", twins_fresh, 0},
     {"a used and a fresh step with one password: the fresh one", twins_used_and_fresh, 0},
     {"two used steps with one password", twins_used, 0},
     {"two steps with one password, as first of a pair", twins_in_pairs, 0},
     {"two steps in a row with one password, as a pair", equal_neighbours, 0},
     {"arguments at the ends of their ranges", just_inside, 0},
+    {"passwords at the ends of their ranges", just_inside_typed, 0},
     {"each argument out of its range", just_outside, 0},
     {"each two arguments out of their ranges", two_outside, 0},
     {"every value of kind, algorithm, digits, period and size", every_value, 0},

@@ -1,5 +1,5 @@
-// The check of document 01, Part 3, over the password of otp_reference.h, written from the document alone: each step of a wide stretch
-// is held against the document's own inequalities.
+// The check of document 01, Part 3, over the password of otp_reference.h, written from the document alone: the arguments are held against
+// Parts 2 to 4, and each step of a wide stretch against the document's own inequalities.
 #ifndef WINDOW_REFERENCE_H
 #define WINDOW_REFERENCE_H
 
@@ -8,6 +8,7 @@
 
 enum {
     WINDOW_LENGTHS = 300, // of key, challenge and password, those that are too long included
+    WINDOW_MOST_PERIOD = 60, // in seconds
     WINDOW_FARTHEST = 600, // from the clock's step, and the document's d, either way
     WINDOW_STRETCH = 700, // no candidate is so far from the clock's step or from next
 };
@@ -47,15 +48,43 @@ static inline struct otp_arguments window_password_arguments(const struct window
         .challenge = call->challenge, .challenge_len = call->challenge_len, .digits = call->digits};
 }
 
-// The ranges that dykeladder.h gives; a password may be anything.
+static inline int window_bytes_between(const struct window_typed *typed, uint8_t least, uint8_t most)
+{
+    for (size_t i = 0; i < typed->len; i++)
+        if (typed->bytes[i] < least || typed->bytes[i] > most)
+            return 0;
+    return 1;
+}
+
+// 6 to 10 ASCII digits, as many as the token's or not.
+static inline int window_is_password(const struct window_typed *typed)
+{
+    return OTP_LEAST_DIGITS <= typed->len && typed->len <= OTP_MOST_DIGITS && window_bytes_between(typed, '0', '9');
+}
+
+// One password, or two, which have no challenge.
+static inline int window_is_typed(const struct window_call *call)
+{
+    if (!window_is_password(&call->presented))
+        return 0;
+    return call->following.len == 0 || (window_is_password(&call->following) && call->challenge_len == 0);
+}
+
+// Part 4's ranges for a token of either kind.
+static inline int window_is_token(const struct window_call *call)
+{
+    if (call->kind == DL_TIME_TOKEN)
+        return 1 <= call->period && call->period <= WINDOW_MOST_PERIOD && call->next <= CLOCK_END + WINDOW_FARTHEST
+            && call->offset <= 2 * WINDOW_FARTHEST;
+    return call->kind == DL_EVENT_TOKEN && call->period == 0 && call->next <= COUNT_END && call->offset == WINDOW_FARTHEST;
+}
+
 static inline int window_in_range(const struct window_call *call)
 {
     struct otp_arguments arguments = window_password_arguments(call, 0);
-    return (call->kind == DL_TIME_TOKEN || call->kind == DL_EVENT_TOKEN)
-        && (call->kind == DL_EVENT_TOKEN || call->period > 0)
+    return otp_in_range(&arguments) && call->now < CLOCK_END
         && (call->size == DL_SMALL || call->size == DL_MEDIUM || call->size == DL_LARGE)
-        && call->next <= CLOCK_END + WINDOW_FARTHEST && call->offset <= 2 * WINDOW_FARTHEST
-        && call->now < CLOCK_END && call->step_len > 0 && otp_in_range(&arguments);
+        && window_is_token(call) && window_is_typed(call) && call->step_len > 0;
 }
 
 // ---- the candidates

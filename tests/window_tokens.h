@@ -63,27 +63,26 @@ static inline void make_token(struct window_call *call, uint8_t kind)
     random_bytes(call->key, sizeof call->key);
     make_challenge(call, one_in(2) ? 0 : random_between(4, 32));
     call->step_len = 1 + random_below(MOST_STEPS);
-    call->offset = (uint16_t)random_below(2 * WINDOW_FARTHEST + 1);
+    call->offset = WINDOW_FARTHEST;
     call->now = random_long(CLOCK_END);
 }
 
-// The document's periods are 1 to 60; the header takes them to 255.
 static inline void time_token(struct window_call *call)
 {
     make_token(call, DL_TIME_TOKEN);
-    call->period = random_between(1, one_in(8) ? 255 : 60);
+    call->period = random_between(1, WINDOW_MOST_PERIOD);
+    call->offset = (uint16_t)random_below(2 * WINDOW_FARTHEST + 1);
     if (one_in(4))
         call->next = random_long(most_next + 1);
     else
         set_next_near(call);
 }
 
-// Its period, offset and clock are anything in range, for nothing depends on them.
+// Its period and its d are 0, and its clock is anything in range, for nothing depends on it.
 static inline void event_token(struct window_call *call)
 {
     make_token(call, DL_EVENT_TOKEN);
-    call->period = random_between(0, 255);
-    call->next = random_long(COUNT_END);
+    call->next = random_long(COUNT_END + 1);
 }
 
 static inline void token_of(struct window_call *call, uint8_t kind)
@@ -114,7 +113,7 @@ static inline void take_token(struct window_call *call, size_t *number)
     call->size = (uint8_t)(DL_SMALL + take(number, 3));
 }
 
-// The document's pairs have no challenge.
+// Pairs have no challenge.
 static inline void pair_token(struct window_call *call)
 {
     any_token(call);
@@ -226,7 +225,7 @@ static inline void early_clock(struct window_call *call)
 // The first and the last second of a step.
 static inline void period_edge(struct window_call *call)
 {
-    static const uint8_t periods[] = {1, 60, 255};
+    static const uint8_t periods[] = {1, WINDOW_MOST_PERIOD};
     whole_window(call);
     call->period = periods[random_below(sizeof periods)];
     call->now = (2000 + random_below(1000000)) * call->period + (one_in(2) ? 0 : call->period - 1);
@@ -249,12 +248,6 @@ static inline void counts_at_end(struct window_call *call)
 {
     event_token(call);
     set_next(call, COUNT_END);
-}
-
-static inline void counts_past_end(struct window_call *call)
-{
-    event_token(call);
-    set_next(call, COUNT_END + 1 + (int64_t)random_long(most_next - COUNT_END));
 }
 
 #endif

@@ -84,11 +84,22 @@ static inline int type_step(struct window_call *call, step_test *fits)
     return 1;
 }
 
-// These three give 1 always, so as to follow the making of a right password.
+// These four give 1 always, so as to follow the making of a right password.
 static inline int type_random_digits(struct window_typed *typed, size_t n)
 {
     typed->len = n;
     random_bytes_between(typed->bytes, n, '0', '9');
+    return 1;
+}
+
+// 6 to 10 digits, but not as many as the token's; those that both have are the same.
+static inline int change_count(struct window_typed *typed)
+{
+    size_t n = random_between(OTP_LEAST_DIGITS, OTP_MOST_DIGITS - 1);
+    n += n >= typed->len;
+    for (size_t i = typed->len; i < n; i++)
+        typed->bytes[i] = random_between('0', '9');
+    typed->len = n;
     return 1;
 }
 
@@ -133,6 +144,7 @@ static inline int used_step(struct window_call *call) { return type_step(call, i
 static inline int step_before(struct window_call *call) { return type_step(call, is_before); }
 static inline int step_behind(struct window_call *call) { return type_step(call, is_behind); }
 static inline int step_near(struct window_call *call) { return type_step(call, is_near); }
+static inline int other_count(struct window_call *call) { return fresh_step(call) && change_count(&call->presented); }
 static inline int other_length(struct window_call *call) { return fresh_step(call) && change_length(&call->presented); }
 static inline int no_digit(struct window_call *call) { return fresh_step(call) && spoil_byte(&call->presented); }
 
@@ -181,6 +193,11 @@ static inline int wrong_second(struct window_call *call)
     return fresh_pair(call) && type_random_digits(&call->following, call->digits);
 }
 
+static inline int pair_other_count(struct window_call *call)
+{
+    return fresh_pair(call) && change_count(one_in(2) ? &call->presented : &call->following);
+}
+
 static inline int second_other_length(struct window_call *call)
 {
     return fresh_pair(call) && change_length(&call->following);
@@ -204,28 +221,53 @@ static inline int pair_no_digit(struct window_call *call)
 
 // ---- any sort
 
-static typist *const singles[] = {fresh_step, used_step, step_before, step_behind, step_near,
-                                  random_digits, other_length, no_digit, no_byte};
+// 6 to 10 digits each.
+static typist *const singles[] = {fresh_step, used_step, step_before, step_behind, step_near, random_digits, other_count};
 static typist *const pairs[] = {fresh_pair, used_pair, border_pair, pair_near, second_behind, first_before, same_twice,
-                                turned_round, one_left_out, wrong_second, wrong_first, second_other_length,
-                                first_other_length, pair_no_digit};
+                                turned_round, one_left_out, wrong_second, wrong_first, pair_other_count};
+
+// Of another length, or with a byte that is no digit.
+static typist *const misfits[] = {other_length, no_digit, no_byte, second_other_length, first_other_length, pair_no_digit};
 
 static inline int any_single(struct window_call *call)
 {
     return singles[random_below(sizeof singles / sizeof *singles)](call);
 }
 
-static inline int any_pair(struct window_call *call)
+static inline int type_any_pair(struct window_call *call)
 {
     return pairs[random_below(sizeof pairs / sizeof *pairs)](call);
 }
 
+static inline int any_pair(struct window_call *call)
+{
+    call->challenge_len = 0;
+    return type_any_pair(call);
+}
+
+// A pair and a challenge; the passwords are those of the challenge or of none.
+static inline int challenged_pair(struct window_call *call)
+{
+    size_t len = call->challenge_len;
+    call->challenge_len = one_in(2) ? len : 0;
+    int is_typed = type_any_pair(call);
+    call->challenge_len = len;
+    return is_typed;
+}
+
+static inline int any_misfit(struct window_call *call)
+{
+    return misfits[random_below(sizeof misfits / sizeof *misfits)](call);
+}
+
 static inline int anything(struct window_call *call)
 {
-    if (one_in(2))
-        return any_single(call);
-    call->challenge_len = 0;
-    return any_pair(call);
+    return one_in(2) ? any_single(call) : any_pair(call);
+}
+
+static inline int anything_or_misfit(struct window_call *call)
+{
+    return one_in(8) ? any_misfit(call) : anything(call);
 }
 
 #endif

@@ -25,9 +25,9 @@ pub struct Track<'a> {
     pub digits: u8,
     /// Its secret, 16 to 32 bytes.
     pub key: &'a [u8],
-    /// The first unused step, at most 2^40 + 600.
+    /// The first unused step, at most 2^40 + 600; of an event token at most 2^32.
     pub next: Step,
-    /// How far its clock is ahead, -600 to 600.
+    /// How far its clock is ahead, -600 to 600; of an event token 0.
     pub offset: Offset,
 }
 
@@ -35,8 +35,12 @@ impl Track<'_> {
     /// The accepted step of a password or, with `following`, the second step of two passwords in a row.
     ///
     /// It changes nothing: the caller sets `next` to that step plus 1 and, for a time token, `offset` to that step minus the clock's.
-    /// Empty texts are none. It is refused as [`BadArgument`](Refusal::BadArgument), [`Used`](Refusal::Used) or
-    /// [`Wrong`](Refusal::Wrong).
+    /// A challenge has 4 to 32 printable ASCII bytes and no space, and two passwords have none. Empty texts are none, but a password
+    /// is needed.
+    ///
+    /// It is refused as [`BadArgument`](Refusal::BadArgument) if a number of the token, the clock or the challenge is out of range or
+    /// a password is not 6 to 10 ASCII digits, as [`Used`](Refusal::Used) if only used steps have the password, and as
+    /// [`Wrong`](Refusal::Wrong) if no step of the window has it, which also goes for another number of digits than the token's.
     ///
     /// ```
     /// # use dykeladder::{password, Algorithm, Factor, Kind, Offset, Refusal, Seconds, Step, Track, Window};

@@ -84,13 +84,61 @@ fn check_of_a_time_token() {
     assert_eq!(pair, Ok(Step(39)));
 }
 
+const EVENT: Track<'_> =
+    Track { kind: Kind::Event, algorithm: Algorithm::Sm4, digits: 6, key: KEY, next: Step(0), offset: Offset(0) };
+const TIME: Track<'_> = Track { kind: Kind::Time { period: 30 }, ..EVENT };
+
+fn check_all(tracks: &[Track<'_>], refusal: Refusal) {
+    for (i, track) in tracks.iter().enumerate() {
+        assert_eq!(track.check(Seconds(0), Window::Small, None, "123456", None), Err(refusal), "track {i}");
+    }
+}
+
 #[test]
-fn check_out_of_range() {
-    let track = Track { kind: Kind::Event, algorithm: Algorithm::Sm4, digits: 6, key: KEY, next: Step(0), offset: Offset(0) };
-    let check = |track: Track<'_>| track.check(Seconds(0), Window::Small, None, "123456", None);
-    assert_eq!(check(track), Err(Refusal::Wrong));
-    assert_eq!(check(Track { offset: Offset(-601), ..track }), Err(Refusal::BadArgument));
-    assert_eq!(check(Track { offset: Offset(601), ..track }), Err(Refusal::BadArgument));
-    assert_eq!(check(Track { key: &KEY[..15], ..track }), Err(Refusal::BadArgument));
-    assert_eq!(check(Track { kind: Kind::Time { period: 0 }, ..track }), Err(Refusal::BadArgument));
+fn check_of_an_event_token_out_of_range() {
+    check_all(&[EVENT, Track { next: Step(1 << 32), ..EVENT }], Refusal::Wrong);
+    check_all(
+        &[
+            Track { next: Step((1 << 32) + 1), ..EVENT },
+            Track { offset: Offset(-1), ..EVENT },
+            Track { offset: Offset(1), ..EVENT },
+            Track { key: &KEY[..15], ..EVENT },
+            Track { key: &[1; 33], ..EVENT },
+            Track { digits: 5, ..EVENT },
+            Track { digits: 11, ..EVENT },
+        ],
+        Refusal::BadArgument,
+    );
+}
+
+#[test]
+fn check_of_a_time_token_out_of_range() {
+    let period = |period| Track { kind: Kind::Time { period }, ..TIME };
+    let next = |next| Track { next: Step(next), ..TIME };
+    let offset = |offset| Track { offset: Offset(offset), ..TIME };
+    check_all(&[period(1), period(60), next((1 << 40) + 600), offset(-600), offset(600)], Refusal::Wrong);
+    check_all(
+        &[period(0), period(61), next((1 << 40) + 601), offset(-601), offset(601), offset(i16::MAX), offset(i16::MIN)],
+        Refusal::BadArgument,
+    );
+    assert_eq!(TIME.check(Seconds(1 << 40), Window::Small, None, "123456", None), Err(Refusal::BadArgument));
+}
+
+// A password has 6 to 10 ASCII digits, and two passwords have no challenge.
+#[test]
+fn check_of_passwords_out_of_range() {
+    let check = |challenge: Option<&str>, password: &str, following: Option<&str>| {
+        EVENT.check(Seconds(0), Window::Large, challenge.map(str::as_bytes), password, following.map(str::as_bytes))
+    };
+    assert_eq!(check(None, "", None), Err(Refusal::BadArgument));
+    for password in ["12345", "12345678901", "12345a", "/23456", ":23456"] {
+        assert_eq!(check(None, password, None), Err(Refusal::BadArgument));
+        assert_eq!(check(None, password, Some("123456")), Err(Refusal::BadArgument));
+        assert_eq!(check(None, "123456", Some(password)), Err(Refusal::BadArgument));
+    }
+    assert_eq!(check(None, "123456", Some("")), Err(Refusal::Wrong));
+    assert_eq!(check(None, "1234567890", Some("1234567")), Err(Refusal::Wrong));
+    assert_eq!(check(Some("quay"), "123456", None), Err(Refusal::Wrong));
+    assert_eq!(check(Some("quay"), "123456", Some("123456")), Err(Refusal::BadArgument));
+    assert_eq!(check(Some("qua"), "123456", None), Err(Refusal::BadArgument));
 }

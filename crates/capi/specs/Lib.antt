@@ -1,5 +1,7 @@
 -- What the C functions leave in their lent outputs.
 pub mod Stored
 pub mod Checked
+pub mod CheckedLaws
+pub mod CheckedExamples
 pub mod DeskLeft
 pub mod DeskLeftLaws

@@ -1,4 +1,7 @@
 // The check of a token's window, for callers who keep the token's numbers themselves.
+use desk::password_ok;
+use row::track_ok;
+use window::CLOCKS;
 use window::Offset;
 use window::Outcome;
 use window::Rule;
@@ -7,13 +10,13 @@ use window::Size;
 use window::Step;
 use window::Track;
 use window::check;
-use window::checkable;
+use window::in_range;
 use words::codes::BAD_ARGUMENT;
 use words::codes::DONE;
 ghost use mathlib.Core.Path.{_≡_};
 ghost use Prim.Native.Nat.{_<_};
 ghost use lib.ListN.{length};
-ghost use Rattle.capi.specs.Checked.{sizeOf, trackOf, outcomeLeft, checkLeft};
+ghost use Rattle.capi.specs.Checked.{trackOf, sizeOf, passwordsOk, checkArgumentsOk, outcomeLeft, checkLeft};
 
 const WRONG: u16 = 0x8002;
 
@@ -22,24 +25,44 @@ const USED: u16 = 0x8004;
 const TOO_FAR: u16 = 0x8106;
 
 // The size that a number from 1 to 3 stands for.
-pub enum SizeRead {
-    Is(Size),
-    Unknown,
-}
-
-fn size_of(number: u8) -> SizeRead
+fn size_of(number: u8) -> Size
     ensures { λ r. ⌜ r ≡ sizeOf number ⌝ }
 {
     if number == 1 {
-        return SizeRead::Is(Size::Small);
+        return Size::Small;
     }
     if number == 2 {
-        return SizeRead::Is(Size::Medium);
+        return Size::Medium;
     }
-    if number == 3 {
-        return SizeRead::Is(Size::Large);
+    Size::Large
+}
+
+// Whether one password is presented, or two as a pair, which has no challenge.
+fn passwords_ok(challenge: &[u8], presented: &[u8], following: &[u8]) -> bool
+    ensures { λ r. ⌜ r ≡ passwordsOk (now (challenge .entry)) (now (presented .entry)) (now (following .entry)) ⌝ }
+{
+    if following.len() == 0 {
+        return password_ok(presented);
     }
-    SizeRead::Unknown
+    password_ok(presented) & ((challenge.len() == 0) & password_ok(following))
+}
+
+// Whether the arguments are in the ranges of document 01, Parts 2 to 4.
+fn arguments_ok(
+    track: Track,
+    clock: Seconds,
+    size: u8,
+    key: &[u8],
+    challenge: &[u8],
+    presented: &[u8],
+    following: &[u8],
+) -> bool
+    ensures { λ r. ⌜ r ≡ checkArgumentsOk track (clock .0) size (now (key .entry)) (now (challenge .entry)) (now (presented .entry)) (now (following .entry)) ⌝ }
+{
+    in_range(track.rule, key, challenge)
+        & ((clock.0 < CLOCKS) & ((1 <= size) & (size <= 3)))
+        & passwords_ok(challenge, presented, following)
+        & track_ok(track)
 }
 
 // The outcome's code, and an accepted step in the first element of step.
@@ -89,19 +112,22 @@ pub extern "C" fn dl_check(
         next: Step(next),
         offset: Offset(offset),
     };
-    if !checkable(track, Seconds(clock), key, challenge) {
+    let ok = arguments_ok(
+        track,
+        Seconds(clock),
+        size,
+        key,
+        challenge,
+        presented,
+        following,
+    );
+    if !(ok & (0 < step.len())) {
         return BAD_ARGUMENT;
     }
-    if step.len() == 0 {
-        return BAD_ARGUMENT;
-    }
-    let SizeRead::Is(read) = size_of(size) else {
-        return BAD_ARGUMENT;
-    };
     let outcome = check(
         track,
         Seconds(clock),
-        read,
+        size_of(size),
         key,
         challenge,
         presented,

@@ -207,7 +207,7 @@ module _ (passwords : PasswordRule) {request : Request} {c : Checking} {serial c
 
     abbrev pair : Track → Size → Outcome
     pair k size =
-        pairCheck k clock size (hasBy passwords (k .rule) (secretAt s at) challenge presented) (hasBy passwords (k .rule) (secretAt s at) challenge following)
+        pairCheck k clock size (hasBy passwords (k .rule) (secretAt s at) [] presented) (hasBy passwords (k .rule) (secretAt s at) [] following)
 
     module _ (same : requestedAt passwords request clock s at ≡ servedAt passwords s at call clock challenge presented following)
         (fit : codesFit call c && made call c ≡ true) where

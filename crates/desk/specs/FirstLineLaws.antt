@@ -117,7 +117,7 @@ module _ (passwords : PasswordRule) (clock : ℕ) (s : List ℕ) (at : ℕ) (sta
     -- a call with one password, with two, or with none
     served-line : (request : Request) (challenge presented following : List ℕ)
         → Checked request (λ k size. singleCheck k clock size (hasBy passwords (k .rule) (secretAt s at) challenge presented))
-        (λ k size. pairCheck k clock size (hasBy passwords (k .rule) (secretAt s at) challenge presented) (hasBy passwords (k .rule) (secretAt s at) challenge following))
+        (λ k size. pairCheck k clock size (hasBy passwords (k .rule) (secretAt s at) [] presented) (hasBy passwords (k .rule) (secretAt s at) [] following))
         → Answers request (servedAt passwords s at (nameOf request) clock challenge presented following)
     unfolding servedAt served serving
     served-line request challenge presented following p = rw ok (permitted-line request _ _ p)

@@ -25,7 +25,7 @@ pub(crate) fn table_ok(table: &[u8]) -> bool
 }
 
 // Whether a password has 6 to 10 ASCII digits; one of another length is not read.
-pub(crate) fn password_ok(password: &[u8]) -> bool
+pub fn password_ok(password: &[u8]) -> bool
     ensures { λ r. ⌜ r ≡ passwordOk (now (password .entry)) ⌝ }
 {
     let n = password.len();

@@ -7,6 +7,7 @@ mod plain_calls;
 mod querying;
 
 pub use arguments::MOST_ROWS;
+pub use arguments::password_ok;
 pub use checked_calls::activate;
 pub use checked_calls::challenge_login;
 pub use checked_calls::login;

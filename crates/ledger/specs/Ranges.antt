@@ -27,7 +27,7 @@ pub record InRanges (r : Row) : Type 0 where
   pub kind : leb (r .track .rule .kind) 1 ≡ true
   pub algorithm : eqb (r .track .rule .algorithm) 3 || eqb (r .track .rule .algorithm) 4 ≡ true
   pub digits : leb 6 (r .track .rule .digits) && leb (r .track .rule .digits) 10 ≡ true
-  pub period : cond (isTime r) (leb 1 (r .track .period) && leb (r .track .period) 60) (eqb (r .track .period) 0) ≡ true
+  pub period : cond (isTime (r .track)) (leb 1 (r .track .period) && leb (r .track .period) 60) (eqb (r .track .period) 0) ≡ true
   pub limit : leb 1 (r .limit) && leb (r .limit) 10 ≡ true
   pub length : leb 16 (r .length) && leb (r .length) keyBytes ≡ true
   pub next : leb (r .track .next .0) (lastNext (r .track)) ≡ true

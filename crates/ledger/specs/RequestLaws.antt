@@ -58,14 +58,14 @@ module _ (passwords : PasswordRule) (l : Loaded) (x y : Reading) (next : ℕ) (d
 
       pair-agrees : checkingOf call ≡ Checking.Pair size
           → Alike (needing needs (y .state) (unexpired (l .particulars) clock
-          (judgedBy call (usedRefusal call) (wrongRefusal call) track clock (pairCheck track clock size (has challenge presented) (has challenge following)))))
+          (judgedBy call (usedRefusal call) (wrongRefusal call) track clock (pairCheck track clock size (has [] presented) (has [] following)))))
       unfolding served serving
       pair-agrees e =
           rw (waited-reads l x next d used clock, ran, e)
           (needing-agrees l x y next d used clock request call needs makes low high
           (λ made. rw (secret (alive request call needs makes (y .state) high made))
-          (check-agrees l x y next d used clock request call needs makes high made (pairCheck track clock size (has challenge presented) (has challenge following))
-          (pair-fresh track clock size (has challenge presented) (has challenge following)) u w)))
+          (check-agrees l x y next d used clock request call needs makes high made (pairCheck track clock size (has [] presented) (has [] following))
+          (pair-fresh track clock size (has [] presented) (has [] following)) u w)))
 
   -- a sync names its window's size
   sync-agrees : (choice : ℕ) (presented following : List ℕ) (b : Bool)

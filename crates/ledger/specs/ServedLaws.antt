@@ -86,9 +86,9 @@ module _ (call : Call) (clock : ℕ) (h : clock < 2 ^ 40) where
       leaves-next first
       (permitted-leaves (waited r clock) (first .live)
       (λ k size. singleCheck k clock size (hasBy passwords (k .rule) key challenge presented))
-      (λ k size. pairCheck k clock size (hasBy passwords (k .rule) key challenge presented) (hasBy passwords (k .rule) key challenge following))
+      (λ k size. pairCheck k clock size (hasBy passwords (k .rule) key [] presented) (hasBy passwords (k .rule) key [] following))
       (λ size. single-fits k clock size (hasBy passwords (k .rule) key challenge presented))
-      (λ size. pair-fits k clock size (hasBy passwords (k .rule) key challenge presented) (hasBy passwords (k .rule) key challenge following)))
+      (λ size. pair-fits k clock size (hasBy passwords (k .rule) key [] presented) (hasBy passwords (k .rule) key [] following)))
 
 -- what a request leaves of a token's row
 pub requested-leaves : (passwords : PasswordRule) (request : Request) (clock : ℕ) → clock < 2 ^ 40 → (t : Token) → Live (t .row)

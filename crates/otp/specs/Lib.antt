@@ -13,3 +13,4 @@ pub mod HashedLaws
 pub mod SpanLaws
 pub mod StepLaws
 pub mod PasswordTable
+pub mod ArgumentTable

@@ -6,6 +6,7 @@ use lib.Dec.{eqb, leb, ltb}
 use lib.ListN.{getD, take, drop, replicate}
 use Rattle.words.specs.Bytes.{beAt, beBytes}
 use Rattle.words.specs.Lists.{allZero}
+use Rattle.window.specs.declared.Track.{Track}
 use Rattle.window.specs.Window.{timeToken, farthest}
 use Rattle.row.specs.declared.Row.{Row}
 
@@ -67,8 +68,22 @@ render r key = beforeKey r ++ (key ++ (stepBytes r ++ timeBytes r))
 
 -- ---- well formed
 
-abbrev pub isTime : Row → Bool
-isTime r = eqb (r .track .rule .kind) timeToken
+abbrev pub isTime : Track → Bool
+isTime k = eqb (k .rule .kind) timeToken
+
+-- the ranges that differ by kind: of the period, the first unused step and d + 600
+abbrev pub periodOk : Track → Bool
+periodOk k = cond (isTime k) (leb 1 (k .period) && leb (k .period) 60) (eqb (k .period) 0)
+
+abbrev pub nextOk : Track → Bool
+nextOk k = leb (k .next .0) (cond (isTime k) (2 ^ 40 + farthest) (2 ^ 32))
+
+abbrev pub offsetOk : Track → Bool
+offsetOk k = cond (isTime k) (leb (k .offset .0) (2 * farthest)) (eqb (k .offset .0) farthest)
+
+-- a time token or an event token, with these in range
+unfoldable pub trackOk : Track → Bool
+trackOk k = ((leb (k .rule .kind) 1 && periodOk k) && nextOk k) && offsetOk k
 
 abbrev pub allOf : List Bool → Bool
 allOf [] = true
@@ -81,11 +96,11 @@ numberTests r =
     ∷ leb (r .track .rule .kind) 1
     ∷ (eqb (r .track .rule .algorithm) 3 || eqb (r .track .rule .algorithm) 4)
     ∷ (leb 6 (r .track .rule .digits) && leb (r .track .rule .digits) 10)
-    ∷ cond (isTime r) (leb 1 (r .track .period) && leb (r .track .period) 60) (eqb (r .track .period) 0)
+    ∷ periodOk (r .track)
     ∷ (leb 1 (r .limit) && leb (r .limit) 10)
     ∷ (leb 16 (r .length) && leb (r .length) keyBytes)
-    ∷ leb (r .track .next .0) (cond (isTime r) (2 ^ 40 + farthest) (2 ^ 32))
-    ∷ cond (isTime r) (leb (r .track .offset .0) (2 * farthest)) (eqb (r .track .offset .0) farthest)
+    ∷ nextOk (r .track)
+    ∷ offsetOk (r .track)
     ∷ (leb 60 (r .wait) && leb (r .wait) 86400)
     ∷ leb (r .expiry .0) (2 ^ 40)
     ∷ (ltb (r .locked .0) (2 ^ 40) && (eqb (r .state) 3 || eqb (r .locked .0) 0))

@@ -15,9 +15,10 @@ use Rattle.words.specs.BytesLaws.{AreBytes, length-beBytes, beAt-agree, beAt-be
 use Rattle.words.specs.Lists.{allZero}
 use Rattle.words.specs.ListsLaws.{by-test}
 use Rattle.words.specs.Tables.{and-left, and-right}
+use Rattle.window.specs.declared.Track.{Track}
 use Rattle.window.specs.Window.{timeToken, farthest, Sound}
 use Rattle.row.specs.declared.Row.{Row}
-use Rattle.row.specs.Row.{rowAt, keyAt, firstBytes, beforeKey, stepBytes, timeBytes, render, isTime, allOf, numberTests, numbersOk, zerosOk, wellFormed}
+use Rattle.row.specs.Row.{rowAt, keyAt, firstBytes, beforeKey, stepBytes, timeBytes, render, isTime, periodOk, nextOk, offsetOk, trackOk, allOf, numberTests, numbersOk, zerosOk, wellFormed}
 
 -- ---- the bytes of a row
 
@@ -189,6 +190,35 @@ test-at [] i t = refl
 test-at (b ∷ bs) zero t = and-left b (allOf bs) t
 test-at (b ∷ bs) (suc i) t = test-at bs i (and-right b (allOf bs) t)
 
+within : (low x high : ℕ) → leb low x && leb x high ≡ true → (low ≤ x) × (x ≤ high)
+within low x high t = (leb-true low x (and-left (leb low x) (leb x high) t), leb-true x high (and-right (leb low x) (leb x high) t))
+
+module _ (k : Track) where
+  period-above : periodOk k ≡ true → k .rule .kind ≡ timeToken → 0 < k .period
+  period-above t e = within 1 (k .period) 60 (rw (eq-eqb (k .rule .kind) timeToken e) at t) .0
+
+  next-below : nextOk k ≡ true → k .next .0 ≤ 2 ^ 40 + farthest
+  next-below t =
+      let l = leb-true (k .next .0) (cond (isTime k) (2 ^ 40 + farthest) (2 ^ 32)) t in
+      by-test (isTime k) (λ p. rw p at l) (λ p. let m : k .next .0 ≤ 2 ^ 32 = rw p at l in omega arith)
+
+  offset-below : offsetOk k ≡ true → k .offset .0 ≤ 2 * farthest
+  offset-below t =
+      by-test (isTime k) (λ p. leb-true (k .offset .0) (2 * farthest) (rw p at t))
+      (λ p. let e = eqb-true (k .offset .0) farthest (rw p at t) in omega arith)
+
+  ranges-sound : periodOk k ≡ true → nextOk k ≡ true → offsetOk k ≡ true → (clock : ℕ) → clock < 2 ^ 40 → Sound k clock
+  ranges-sound p n o clock h = record { divided = period-above p; timely = h; counted = next-below n; within = offset-below o }
+
+  -- what a check asks of a token
+  pub track-sound : trackOk k ≡ true → (clock : ℕ) → clock < 2 ^ 40 → Sound k clock
+  unfolding trackOk
+  track-sound ok =
+      let p : periodOk k ≡ true = search (and-left, and-right) depth 6 in
+      let n : nextOk k ≡ true = search (and-left, and-right) depth 6 in
+      let o : offsetOk k ≡ true = search (and-left, and-right) depth 6 in
+      ranges-sound p n o
+
 module _ (r : Row) (ok : numbersOk r ≡ true) where
   passed : (i : ℕ) → getD (numberTests r) i true ≡ true
   unfolding numbersOk
@@ -201,9 +231,6 @@ module _ (r : Row) (ok : numbersOk r ≡ true) where
       either : (a : ℕ) → eqb a 3 || eqb a 4 ≡ true → (a ≡ 3) ⊎ (a ≡ 4)
       either a t = by-test (eqb a 3) (λ p. inl (eqb-true a 3 p)) (λ p. inr (eqb-true a 4 (rw p at t)))
 
-  within : (low x high : ℕ) → leb low x && leb x high ≡ true → (low ≤ x) × (x ≤ high)
-  within low x high t = (leb-true low x (and-left (leb low x) (leb x high) t), leb-true x high (and-right (leb low x) (leb x high) t))
-
   pub digits-in-range : (6 ≤ r .track .rule .digits) × (r .track .rule .digits ≤ 10)
   unfolding numberTests
   digits-in-range = within 6 (r .track .rule .digits) 10 (passed 3)
@@ -212,23 +239,7 @@ module _ (r : Row) (ok : numbersOk r ≡ true) where
   unfolding numberTests
   length-in-range = within 16 (r .length) 32 (passed 6)
 
-  period-above : r .track .rule .kind ≡ timeToken → 0 < r .track .period
-  unfolding numberTests
-  period-above e = within 1 (r .track .period) 60 (rw (eq-eqb (r .track .rule .kind) timeToken e) at (passed 4)) .0
-
-  next-below : r .track .next .0 ≤ 2 ^ 40 + farthest
-  unfolding numberTests
-  next-below =
-      let l = leb-true (r .track .next .0) (cond (isTime r) (2 ^ 40 + farthest) (2 ^ 32)) (passed 7) in
-      by-test (isTime r) (λ t. rw t at l) (λ t. let m : r .track .next .0 ≤ 2 ^ 32 = rw t at l in omega arith)
-
-  offset-below : r .track .offset .0 ≤ 2 * farthest
-  unfolding numberTests
-  offset-below =
-      let t = passed 8 in
-      by-test (isTime r) (λ p. leb-true (r .track .offset .0) (2 * farthest) (rw p at t))
-      (λ p. let e = eqb-true (r .track .offset .0) farthest (rw p at t) in omega arith)
-
   -- what a check asks of the row's track
   pub row-sound : (clock : ℕ) → clock < 2 ^ 40 → Sound (r .track) clock
-  row-sound clock h = record { divided = period-above; timely = h; counted = next-below; within = offset-below }
+  unfolding numberTests
+  row-sound clock h = ranges-sound (r .track) (passed 4) (passed 7) (passed 8) clock h

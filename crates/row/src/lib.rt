@@ -12,6 +12,7 @@ pub use layout::KEY;
 pub use layout::KEY_BYTES;
 pub use layout::ROW_BYTES;
 pub use ranges::numbers_ok;
+pub use ranges::track_ok;
 pub use reading::Place;
 pub use reading::RowRead;
 pub use reading::read_row;

@@ -9,11 +9,12 @@ use window::CLOCKS;
 use window::COUNTS;
 use window::FARTHEST;
 use window::TIME_TOKEN;
+use window::Track;
 ghost use mathlib.Core.Path.{_≡_};
 ghost use mathlib.Core.Bool.{cond, _&&_};
 ghost use Prim.Native.Nat.{_+_, _*_, _^_};
 ghost use lib.Dec.{eqb, leb};
-ghost use Rattle.row.specs.Row.{numbersOk};
+ghost use Rattle.row.specs.Row.{trackOk, numbersOk};
 
 fn period_ok(timed: bool, period: u8) -> bool
     ensures { λ r. ⌜ r ≡ cond timed (leb 1 period && leb period 60) (eqb period 0) ⌝ }
@@ -40,6 +41,17 @@ fn offset_ok(timed: bool, offset: u64) -> bool
     } else {
         offset == FARTHEST
     }
+}
+
+// Whether the kind, the period, the first unused step and the offset are in range, for callers that have no row.
+pub fn track_ok(track: Track) -> bool
+    ensures { λ r. ⌜ r ≡ trackOk track ⌝ }
+{
+    let timed = track.rule.kind == TIME_TOKEN;
+    (track.rule.kind <= 1)
+        & period_ok(timed, track.period)
+        & (track.next.0 <= last_next(timed))
+        & offset_ok(timed, track.offset.0 as u64)
 }
 
 // Whether the numbers are in Part 4's ranges, in its order.

@@ -13,8 +13,7 @@ use Rattle.words.specs.ListsLaws.{by-test}
 use Rattle.words.specs.Tables.{and-left}
 use Rattle.otp.specs.Password.{challengeOk, argumentsOk}
 use Rattle.window.specs.Window.{Sound}
-use Rattle.window.specs.PasswordAtLaws.{inRange}
-use Rattle.window.specs.PasswordAt.{passwordAt}
+use Rattle.window.specs.PasswordAt.{passwordAt, inRange}
 use Rattle.row.specs.declared.Row.{Row}
 use Rattle.row.specs.declared.reading.RowRead.{RowRead}
 use Rattle.row.specs.declared.reading.RowRead.the-variants.{Good, Damaged}

@@ -2,7 +2,7 @@
 -- The checks' outcomes are parameters, and so is the password rule: a call rests on no cipher.
 use Prim.Native.Nat.{ℕ}
 use mathlib.Core.Bool.{cond}
-use mathlib.Core.List.{List}
+use mathlib.Core.List.{List, []}
 use lib.Dec.{leb}
 use Rattle.window.specs.declared.Size.{Size}
 use Rattle.window.specs.declared.Track.{Track}
@@ -47,11 +47,11 @@ permitted call r clock single pair = cond (allowed call (r .state)) (checking ca
 unfoldable pub serving : Call → Row → ℕ → (Track → Size → Outcome) → (Track → Size → Outcome) → Served
 serving call r clock single pair = permitted call (waited r clock) clock single pair
 
--- by a password rule and the token's key: what is presented is checked alone or, with the password that follows it, as a pair
+-- by a password rule and the token's key: what is presented is checked alone or, with the password that follows it, as a pair, which has no Q
 unfoldable pub served : PasswordRule → Call → Row → List ℕ → ℕ → List ℕ → List ℕ → List ℕ → Served
 served passwords call r key clock challenge presented following =
     serving call r clock (λ k size. singleCheck k clock size (hasBy passwords (k .rule) key challenge presented))
-    (λ k size. pairCheck k clock size (hasBy passwords (k .rule) key challenge presented) (hasBy passwords (k .rule) key challenge following))
+    (λ k size. pairCheck k clock size (hasBy passwords (k .rule) key [] presented) (hasBy passwords (k .rule) key [] following))
 
 -- a query reports a wait that has run out, and leaves the row
 unfoldable pub querying : Row → ℕ → Answer

@@ -71,7 +71,7 @@ module _ (k : Track) (clock : ℕ) (size : Size) (key challenge presented : List
 
   check-pair : (following : List ℕ) → 0 < length following
       → checkOf k clock size key challenge presented following
-      ≡ pairCheck k clock size (hasBy passwordAt (k .rule) key challenge presented) (hasBy passwordAt (k .rule) key challenge following)
+      ≡ pairCheck k clock size (hasBy passwordAt (k .rule) key [] presented) (hasBy passwordAt (k .rule) key [] following)
   unfolding checkOf hasPassword
   check-pair [] l = absurd (omega arith)
   check-pair (b ∷ following) l = refl

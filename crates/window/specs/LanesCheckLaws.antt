@@ -52,8 +52,8 @@ presented-fits digits presented (b ∷ following) h c =
 
 -- ---- the ways through the code
 
-module _ (k : Track) (clock : ℕ) (size : Size) (key challenge presented following : List ℕ) {first end fresh used ahead : ℕ} {goal : Goal}
-    (good : Sound k clock) (none : length challenge ≡ 0) (counts : countsRight (k .rule .digits) presented following ≡ true)
+module _ (k : Track) (clock : ℕ) (size : Size) (key presented following : List ℕ) {first end fresh used ahead : ℕ} {goal : Goal}
+    (good : Sound k clock) (counts : countsRight (k .rule .digits) presented following ≡ true)
     (h : ahead ≡ aheadOf following) (a : first ≡ firstStep k clock size) (b : end ≡ endStep k clock size)
     (m : fresh ≡ max (first + ahead) (k .next .0 + ahead)) (n : used ≡ min end (k .next .0 + ahead))
     (eg : goal ≡ goalOf (k .rule .digits) presented following) where
@@ -68,18 +68,18 @@ module _ (k : Track) (clock : ℕ) (size : Size) (key challenge presented follow
   pub ranges-ahead : (aheadBy goal ≤ first + ahead) × (aheadBy goal ≤ fresh)
   ranges-ahead = let e = goal-ahead (k .rule .digits) presented following eg in (omega (arith, e, h), omega (arith, e, h, m))
 
-  by-password : (from n : ℕ) {f : Found} → f ≡ foundOf (sweep (laneTest goal (cutAt (k .rule) key)) from n) → f ≡ foundOf (sweep (matchesAt (k .rule) key challenge presented following) from n)
-  by-password from n e = lanes-search (k .rule) key challenge presented following from n none counts eg e
+  by-password : (from n : ℕ) {f : Found} → f ≡ foundOf (sweep (laneTest goal (cutAt (k .rule) key)) from n) → f ≡ foundOf (sweep (matchesAt (k .rule) key [] presented following) from n)
+  by-password from n e = lanes-search (k .rule) key presented following from n counts eg e
 
   pub lanes-accepts : {f : Found} {s : Step} {r : Outcome} → f ≡ foundOf (sweep (laneTest goal (cutAt (k .rule) key)) fresh (end - fresh)) → f ≡ At s
-      → r ≡ accepting (tooFar k clock) (s .0) → r ≡ checkOf k clock size key challenge presented following
-  lanes-accepts e i p = check-accepts k clock size key challenge presented following h a b m (by-password fresh (end - fresh) e) i p
+      → r ≡ accepting (tooFar k clock) (s .0) → r ≡ checkOf k clock size key [] presented following
+  lanes-accepts e i p = check-accepts k clock size key [] presented following h a b m (by-password fresh (end - fresh) e) i p
 
   module _ {g : Found} {r : Outcome} (u : g ≡ foundOf (sweep (laneTest goal (cutAt (k .rule) key)) (first + ahead) (used - (first + ahead)))) (p : r ≡ usedOrWrong g) where
-    pub lanes-rest : {f : Found} → f ≡ foundOf (sweep (laneTest goal (cutAt (k .rule) key)) fresh (end - fresh)) → f ≡ Nowhere → r ≡ checkOf k clock size key challenge presented following
+    pub lanes-rest : {f : Found} → f ≡ foundOf (sweep (laneTest goal (cutAt (k .rule) key)) fresh (end - fresh)) → f ≡ Nowhere → r ≡ checkOf k clock size key [] presented following
     lanes-rest e i =
-        check-rest k clock size key challenge presented following h a b m (by-password fresh (end - fresh) e) i n (by-password (first + ahead) (used - (first + ahead)) u) p
+        check-rest k clock size key [] presented following h a b m (by-password fresh (end - fresh) e) i n (by-password (first + ahead) (used - (first + ahead)) u) p
 
     -- no step is fresh
-    pub lanes-used : end ≤ fresh → r ≡ checkOf k clock size key challenge presented following
+    pub lanes-used : end ≤ fresh → r ≡ checkOf k clock size key [] presented following
     lanes-used l = lanes-rest (sweep-end (laneTest goal (cutAt (k .rule) key)) fresh end l) refl

@@ -62,13 +62,12 @@ module _ (rule : Rule) (key : List ℕ) where
       and-swap false false = refl
 
   -- the two searches agree
-  pub lanes-search : (challenge presented following : List ℕ) (first n : ℕ) {goal : Goal} {f : Found}
-      → length challenge ≡ 0 → countsRight (rule .digits) presented following ≡ true → goal ≡ goalOf (rule .digits) presented following
-      → f ≡ foundOf (sweep (laneTest goal (cutAt rule key)) first n) → f ≡ foundOf (sweep (matchesAt rule key challenge presented following) first n)
-  lanes-search [] presented following first n z c eg e =
+  pub lanes-search : (presented following : List ℕ) (first n : ℕ) {goal : Goal} {f : Found}
+      → countsRight (rule .digits) presented following ≡ true → goal ≡ goalOf (rule .digits) presented following
+      → f ≡ foundOf (sweep (laneTest goal (cutAt rule key)) first n) → f ≡ foundOf (sweep (matchesAt rule key [] presented following) first n)
+  lanes-search presented following first n c eg e =
       e ∙ rw eg (ap foundOf (sweep-same (laneTest (goalOf (rule .digits) presented following) (cutAt rule key)) (matchesAt rule key [] presented following)
       first n (λ r l m. lane-matches presented following r c)))
-  lanes-search (b ∷ challenge) presented following first n z c eg e = absurd (omega arith)
 
 -- ---- the goal
 

@@ -5,7 +5,6 @@ pub mod Check
 pub mod CheckLaws
 pub mod PasswordAt
 pub mod PasswordAtLaws
-pub mod Arguments
 pub mod TokenCheck
 pub mod Meaning
 pub mod SearchLaws

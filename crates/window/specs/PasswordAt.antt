@@ -5,7 +5,8 @@ use mathlib.Core.List.{List}
 use lib.Dec.{eqb}
 use Rattle.words.specs.Lists.{sameBytes}
 use Rattle.otp.specs.declared.Factor.{Factor}
-use Rattle.otp.specs.Password.{passwordOf}
+use Rattle.otp.specs.declared.Factor.the-variants.{Absent, Present}
+use Rattle.otp.specs.Password.{passwordOf, argumentsOk}
 use Rattle.otp.specs.StepCuts.{timeAt, countAt}
 use Rattle.window.specs.declared.Rule.{Rule}
 use Rattle.window.specs.Window.{timeToken}
@@ -19,6 +20,10 @@ countOf kind s = countAt (eqb kind timeToken) s
 
 unfoldable pub passwordAt : Rule → List ℕ → List ℕ → ℕ → List ℕ
 passwordAt rule key challenge s = passwordOf (rule .algorithm) key (timeOf (rule .kind) s) (countOf (rule .kind) s) challenge (rule .digits)
+
+-- the rule, the key and the challenge are in range (document 01, Part 2); a step adds nothing to that
+abbrev pub inRange : Rule → List ℕ → List ℕ → Bool
+inRange rule key challenge = argumentsOk (rule .algorithm) key (Present 0) Absent challenge (rule .digits)
 
 -- a password rule: the digits of a step, from a token's rule, its key and the challenge; `passwordAt` is the standard's
 abbrev pub PasswordRule : Type 0

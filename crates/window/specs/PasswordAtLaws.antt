@@ -1,27 +1,23 @@
 -- What a search asks of the password rule.
 use Prim.Native.Nat.{ℕ, _-_, _≤_, _<_, _^_}
-use mathlib.Core.Path.{_≡_, refl, sym, ap, _∙_}
+use mathlib.Core.Path.{_≡_, refl, ap, _∙_}
 use mathlib.Core.Bool.{Bool, true, false, cond, _&&_, _||_}
 use mathlib.Core.List.{List, [], _∷_, _++_}
-use native.Mathlib.Nat.{sub-zero}
 use native.Mathlib.Omega.{arith}
 use borrow.Author.Tests.{lt-ltb}
-use lib.Dec.{eqb, ltb}
+use lib.Dec.{eqb, leb, ltb}
 use lib.ListN.{length, take}
 use lib.Seq.{take-append-seam}
 use Rattle.words.specs.Lists.{sameBytes}
+use Rattle.words.specs.Tables.{and-left, and-right}
 use Rattle.words.specs.ListsLaws.{same-lengths}
 use Rattle.otp.specs.declared.Factor.{Factor}
 use Rattle.otp.specs.declared.Factor.the-variants.{Absent, Present}
-use Rattle.otp.specs.Password.{passwordOf, argumentsOk}
+use Rattle.otp.specs.Password.{algorithmSm3, algorithmSm4, passwordOf, challengeOk, argumentsOk}
 use Rattle.otp.specs.PasswordLaws.{length-password, digits-high}
 use Rattle.window.specs.declared.Rule.{Rule}
 use Rattle.window.specs.Window.{timeToken}
-use Rattle.window.specs.PasswordAt.{timeOf, countOf, passwordAt, hasPassword}
-
--- the rule, the key and the challenge are in range; a step adds nothing to that
-abbrev pub inRange : Rule → List ℕ → List ℕ → Bool
-inRange rule key challenge = argumentsOk (rule .algorithm) key (Present 0) Absent challenge (rule .digits)
+use Rattle.window.specs.PasswordAt.{timeOf, countOf, passwordAt, inRange, hasPassword}
 
 -- a time token's steps have no bound here, an event token's are below 2^32
 abbrev pub StepOk : ℕ → ℕ → Type 0
@@ -35,11 +31,11 @@ abbrev pub aheadOf : List ℕ → ℕ
 aheadOf [] = 0
 aheadOf (b ∷ following) = 1
 
--- a is the step to accept: it has the presented password or, of a pair, the following one, and the step before it the presented one
+-- a is the step to accept: it has the presented password or, of a pair, the following one, and the step before it the presented one, both without Q
 unfoldable pub matchesAt : Rule → List ℕ → List ℕ → List ℕ → List ℕ → ℕ → Bool
 matchesAt rule key challenge presented [] a = hasPassword rule key challenge presented a
 matchesAt rule key challenge presented (b ∷ following) a =
-    hasPassword rule key challenge presented (a - 1) && hasPassword rule key challenge (b ∷ following) a
+    hasPassword rule key [] presented (a - 1) && hasPassword rule key [] (b ∷ following) a
 
 -- the presented passwords have as many digits as the token's
 abbrev pub countsRight : ℕ → List ℕ → List ℕ → Bool
@@ -55,6 +51,15 @@ arguments-at rule key challenge s ok below = pick (eqb (rule .kind) timeToken) b
     pick true h = ok
     pick false h = let e : ltb s (2 ^ 32) ≡ true = lt-ltb s (2 ^ 32) (h refl) in rw e ok
 
+-- without the challenge they are in range too
+pub range-unchallenged : (rule : Rule) (key challenge : List ℕ) → inRange rule key challenge ≡ true → inRange rule key [] ≡ true
+unfolding argumentsOk challengeOk
+range-unchallenged rule key challenge ok =
+    let a : eqb (rule .algorithm) algorithmSm3 || eqb (rule .algorithm) algorithmSm4 ≡ true = search (and-left, and-right) depth 12 in
+    let k : leb 16 (length key) && leb (length key) 32 ≡ true = search (and-left, and-right) depth 12 in
+    let d : leb 6 (rule .digits) && leb (rule .digits) 10 ≡ true = search (and-left, and-right) depth 12 in
+    rw (a, k, d)
+
 -- a password has at most ten digits
 pub digits-fit : (rule : Rule) (key challenge : List ℕ) → inRange rule key challenge ≡ true → rule .digits ≤ 10
 digits-fit rule key challenge ok = digits-high (rule .algorithm) key (Present 0) Absent challenge (rule .digits) ok
@@ -69,25 +74,6 @@ compared rule key challenge presented rest s e t c o h =
     let p = passwordOf (rule .algorithm) key (timeOf (rule .kind) s) (countOf (rule .kind) s) challenge (rule .digits) in
     let l = length-password (rule .algorithm) key (timeOf (rule .kind) s) (countOf (rule .kind) s) challenge (rule .digits) in
     h ∙ ap (sameBytes presented) (rw (o, t, c, e) (rw l at (take-append-seam p rest)))
-
-module _ (rule : Rule) (key challenge presented : List ℕ) (a : ℕ) where
-  -- what is tested first, where the presented password stands
-  pub matches-not : (following : List ℕ) → hasPassword rule key challenge presented (a - aheadOf following) ≡ false → false ≡ matchesAt rule key challenge presented following a
-  unfolding matchesAt
-  matches-not [] e = sym (rw sub-zero at e)
-  matches-not (b ∷ following) e = rw e
-
-  pub matches-alone : (following : List ℕ) → length following ≡ 0 → hasPassword rule key challenge presented (a - aheadOf following) ≡ true
-      → true ≡ matchesAt rule key challenge presented following a
-  unfolding matchesAt
-  matches-alone [] z e = sym (rw sub-zero at e)
-  matches-alone (b ∷ following) z e = absurd (omega arith)
-
-  pub matches-pair : (following : List ℕ) → (length following ≡ 0 → ⊥) → hasPassword rule key challenge presented (a - aheadOf following) ≡ true
-      → hasPassword rule key challenge following a ≡ matchesAt rule key challenge presented following a
-  unfolding matchesAt
-  matches-pair [] n e = absurd (n refl)
-  matches-pair (b ∷ following) n e = rw e
 
 pub ahead-alone : (following : List ℕ) → length following ≡ 0 → 0 ≡ aheadOf following
 ahead-alone [] z = refl

@@ -20,8 +20,8 @@ singleCheck k clock size matches = settled (tooFar k clock) 0 (checked (singleHi
 unfoldable pub pairCheck : Track → ℕ → Size → (ℕ → Bool) → (ℕ → Bool) → Outcome
 pairCheck k clock size first second = settled (tooFar k clock) 1 (checked (pairHit (candidate k clock size) first second) (k .next .0) (beyond k clock))
 
--- one presented password is checked alone, and two as a pair; an empty second one is none
+-- one presented password is checked alone, with Q if the call has one; two are checked as a pair, which has no Q; an empty second one is none
 unfoldable pub checkOf : Track → ℕ → Size → List ℕ → List ℕ → List ℕ → List ℕ → Outcome
 checkOf k clock size key challenge presented [] = singleCheck k clock size (hasPassword (k .rule) key challenge presented)
 checkOf k clock size key challenge presented (b ∷ following) =
-    pairCheck k clock size (hasPassword (k .rule) key challenge presented) (hasPassword (k .rule) key challenge (b ∷ following))
+    pairCheck k clock size (hasPassword (k .rule) key [] presented) (hasPassword (k .rule) key [] (b ∷ following))

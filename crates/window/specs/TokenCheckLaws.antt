@@ -1,13 +1,14 @@
 -- The checks of a token by two searches.
 use Prim.Native.Nat.{ℕ, suc, _+_, _-_, _^_, _≤_, min, max}
 use mathlib.Core.Path.{_≡_, refl, sym, ap, ap₂, _∙_}
-use mathlib.Core.Bool.{Bool, true, false, cond, _&&_}
+use mathlib.Core.Bool.{Bool, true, false, cond, not, _&&_}
 use mathlib.Core.List.{List, [], _∷_}
 use native.Mathlib.Nat.{add-zero, sub-zero, le-trans, min-le-left, div-le-self}
 use native.Mathlib.Omega.{arith}
-use borrow.Author.Tests.{eqb-false, ne-eqb}
+use borrow.Author.Tests.{eqb-true, eqb-false, ne-eqb}
 use lib.Dec.{eqb}
 use lib.ListN.{length}
+use Rattle.words.specs.Tables.{and-right}
 use Rattle.words.specs.ListsLaws.{and-true, and-false, by-test}
 use Rattle.window.specs.declared.Size.{Size}
 use Rattle.window.specs.declared.Step.{Step}
@@ -71,8 +72,8 @@ module _ (k : Track) (clock : ℕ) (size : Size) (key challenge presented : List
       (λ s. rw (sub-zero (endStep k clock size), candidates-are-range k clock size s)) (λ s. rw (add-zero s))
   token-searched (b ∷ following) =
       let room = end-below k clock size in
-      check-searched (tooFar k clock) (pairHit (candidate k clock size) (hasPassword (k .rule) key challenge presented) (hasPassword (k .rule) key challenge (b ∷ following)))
-      (λ s. hasPassword (k .rule) key challenge presented s && hasPassword (k .rule) key challenge (b ∷ following) (s + 1))
+      check-searched (tooFar k clock) (pairHit (candidate k clock size) (hasPassword (k .rule) key [] presented) (hasPassword (k .rule) key [] (b ∷ following)))
+      (λ s. hasPassword (k .rule) key [] presented s && hasPassword (k .rule) key [] (b ∷ following) (s + 1))
       (matchesAt (k .rule) key challenge presented (b ∷ following)) (firstStep k clock size) (endStep k clock size) (k .next .0) (beyond k clock) 1 (omega arith)
       (λ s. rw (candidates-are-range k clock size s, candidates-are-range k clock size (s + 1), both-in-range (firstStep k clock size) (endStep k clock size) s))
       (λ s. let e : s + 1 - 1 ≡ s = omega arith in rw e)
@@ -102,6 +103,19 @@ module _ (k : Track) (clock : ℕ) (size : Size) (key challenge presented follow
         by-found (At s) = refl
         by-found Nowhere = refl
 
+-- one password
+module _ (k : Track) (clock : ℕ) (size : Size) (key challenge presented : List ℕ) {first end fresh : ℕ} {f : Found}
+    (a : first ≡ firstStep k clock size) (b : end ≡ endStep k clock size) (m : fresh ≡ max (first + 0) (k .next .0 + 0))
+    (e : f ≡ foundOf (sweep (hasPassword (k .rule) key challenge presented) fresh (end - fresh))) where
+  pub single-accepts : {s : Step} {r : Outcome} → f ≡ At s → r ≡ accepting (tooFar k clock) (s .0) → r ≡ checkOf k clock size key challenge presented []
+  unfolding matchesAt
+  single-accepts i p = check-accepts k clock size key challenge presented [] refl a b m e i p
+
+  pub single-rest : {used : ℕ} {g : Found} {r : Outcome} → f ≡ Nowhere → used ≡ min end (k .next .0 + 0)
+      → g ≡ foundOf (sweep (hasPassword (k .rule) key challenge presented) first (used - first)) → r ≡ usedOrWrong g → r ≡ checkOf k clock size key challenge presented []
+  unfolding matchesAt
+  single-rest {g = g} i n u p = check-rest k clock size key challenge presented [] refl a b m e {g = g} i n (rw (add-zero first) u) p
+
 -- ---- a digit count not the token's is wrong, and nothing need be searched
 
 pub check-counted : (k : Track) (clock : ℕ) (size : Size) (key challenge presented following : List ℕ)
@@ -111,10 +125,32 @@ check-counted k clock size key challenge presented [] e =
     sym (single-wrong-exactly k clock size (hasPassword (k .rule) key challenge presented) .1
     (λ s. rw (other-length (k .rule) key challenge presented s (eqb-false (length presented) (k .rule .digits) (rw and-true at e))) (and-false (candidate k clock size s))))
 check-counted k clock size key challenge presented (b ∷ following) e =
-    sym (pair-wrong-exactly k clock size (hasPassword (k .rule) key challenge presented) (hasPassword (k .rule) key challenge (b ∷ following)) .1
+    sym (pair-wrong-exactly k clock size (hasPassword (k .rule) key [] presented) (hasPassword (k .rule) key [] (b ∷ following)) .1
     (λ s. by-test (eqb (length presented) (k .rule .digits))
-    (λ t. rw (other-length (k .rule) key challenge (b ∷ following) (s + 1) (eqb-false (suc (length following)) (k .rule .digits) (rw (t, ne-eqb (suc (length following)) 0 (λ z. omega arith)) at e)), and-false, and-false))
-    (λ t. rw (other-length (k .rule) key challenge presented s (eqb-false (length presented) (k .rule .digits) t)) (and-false (candidate k clock size s && candidate k clock size (s + 1))))))
+    (λ t. rw (other-length (k .rule) key [] (b ∷ following) (s + 1) (eqb-false (suc (length following)) (k .rule .digits) (rw (t, ne-eqb (suc (length following)) 0 (λ z. omega arith)) at e)), and-false, and-false))
+    (λ t. rw (other-length (k .rule) key [] presented s (eqb-false (length presented) (k .rule .digits) t)) (and-false (candidate k clock size s && candidate k clock size (s + 1))))))
+
+-- ---- a pair has no challenge
+
+module _ (k : Track) (clock : ℕ) (size : Size) (key presented : List ℕ) {r : Outcome} where
+  -- one password, with its challenge
+  pub check-challenged : (challenge following : List ℕ) → not (eqb (length challenge) 0) && eqb (length following) 0 ≡ true
+      → r ≡ checkOf k clock size key challenge presented [] → r ≡ checkOf k clock size key challenge presented following
+  check-challenged challenge [] t e = e
+  check-challenged challenge (b ∷ following) t e =
+      let l = eqb-true (length (b ∷ following)) 0 (and-right (not (eqb (length challenge) 0)) (eqb (length (b ∷ following)) 0) t) in
+      absurd (omega (arith, l))
+
+  -- no challenge, or a pair
+  pub check-unchallenged : (challenge following : List ℕ) → not (eqb (length challenge) 0) && eqb (length following) 0 ≡ false
+      → r ≡ checkOf k clock size key [] presented following → r ≡ checkOf k clock size key challenge presented following
+  unfolding checkOf
+  check-unchallenged [] following t e = e
+  check-unchallenged (q ∷ challenge) [] t e =
+      let y : true ≡ false = rw (ne-eqb (length (q ∷ challenge)) 0 (λ z. omega arith)) at t in
+      let z : _≡_ {A = ℕ} 0 1 = cc in
+      absurd (omega arith)
+  check-unchallenged (q ∷ challenge) (b ∷ following) t e = e
 
 -- ---- what is accepted is a candidate
 
@@ -123,4 +159,4 @@ pub check-accepts-candidate : (k : Track) (clock : ℕ) (size : Size) (key chall
 unfolding checkOf
 check-accepts-candidate k clock size key challenge presented [] e = single-accepts-candidate k clock size (hasPassword (k .rule) key challenge presented) e
 check-accepts-candidate k clock size key challenge presented (b ∷ following) e =
-    pair-accepts-candidate k clock size (hasPassword (k .rule) key challenge presented) (hasPassword (k .rule) key challenge (b ∷ following)) e
+    pair-accepts-candidate k clock size (hasPassword (k .rule) key [] presented) (hasPassword (k .rule) key [] (b ∷ following)) e

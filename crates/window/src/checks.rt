@@ -20,14 +20,15 @@ use crate::search::first_match;
 use otp::prepared::prepare;
 ghost use mathlib.Core.Path.{_≡_};
 ghost use mathlib.Core.Bool.{true};
+ghost use mathlib.Core.List.{[]};
 ghost use Prim.Native.Nat.{_+_, _≤_, min, max};
-ghost use lib.ListN.{length};
 ghost use Rattle.window.specs.Window.{Sound};
 ghost use Rattle.window.specs.WindowLaws.{firstStep, endStep};
 ghost use Rattle.window.specs.Check.{accepting};
 ghost use Rattle.window.specs.SearchLaws.{usedOrWrong};
 ghost use Rattle.window.specs.TokenCheck.{tooFar, checkOf};
-ghost use Rattle.window.specs.PasswordAtLaws.{inRange, countsRight};
+ghost use Rattle.window.specs.PasswordAt.{inRange};
+ghost use Rattle.window.specs.PasswordAtLaws.{countsRight};
 
 // Whether the presented passwords have as many digits as the token's.
 fn counts_right(digits: u8, presented: &[u8], following: &[u8]) -> bool
@@ -91,7 +92,7 @@ fn used_or_wrong(found: Found) -> Outcome
     }
 }
 
-// With a challenge, one step after the other. Steps that could be accepted are searched, fresh ones first: if one matches, no used one counts.
+// One password with a challenge, one step after the other. Steps that could be accepted are searched, fresh ones first: if one matches, no used one counts.
 fn searched(
     track: Track,
     clock: Seconds,
@@ -99,22 +100,19 @@ fn searched(
     key: &[u8],
     challenge: &[u8],
     presented: &[u8],
-    following: &[u8],
 ) -> Outcome
     requires { ⌜ Sound track (clock .0) ⌝ }
     requires { ⌜ inRange (track .rule) (now key) (now challenge) ≡ true ⌝ }
-    ensures { λ r. ⌜ r ≡ checkOf track (clock .0) size (now (key .entry)) (now (challenge .entry)) (now (presented .entry)) (now (following .entry)) ⌝ }
+    ensures { λ r. ⌜ r ≡ checkOf track (clock .0) size (now (key .entry)) (now (challenge .entry)) (now (presented .entry)) [] ⌝ }
 {
     let keys = prepare(track.rule.algorithm, key);
-    let ahead = ahead_of(following);
-    let ranges = parted(track, clock, size, ahead);
+    let ranges = parted(track, clock, size, 0);
     if let Found::At(a) = first_match(
         track.rule,
         key,
         &keys,
         challenge,
         presented,
-        following,
         ranges.fresh,
         ranges.end,
     ) {
@@ -126,28 +124,25 @@ fn searched(
         &keys,
         challenge,
         presented,
-        following,
-        ranges.first + ahead,
+        ranges.first,
         ranges.used,
     ))
 }
 
-// The same without a challenge, several steps at once. SM4's first make the round keys, which serve all later ones.
+// The same for one password without a challenge or for a pair, several steps at once. SM4's first make the round keys, which serve all later ones.
 // Where the fresh steps begin with the first unused one, that is the likeliest.
 fn searched_in_lanes(
     track: Track,
     clock: Seconds,
     size: Size,
     key: &[u8],
-    challenge: &[u8],
     presented: &[u8],
     following: &[u8],
 ) -> Outcome
     requires { ⌜ Sound track (clock .0) ⌝ }
-    requires { ⌜ inRange (track .rule) (now key) (now challenge) ≡ true ⌝ }
-    requires { ⌜ length (now challenge) ≡ 0 ⌝ }
+    requires { ⌜ inRange (track .rule) (now key) [] ≡ true ⌝ }
     requires { ⌜ countsRight (track .rule .digits) (now presented) (now following) ≡ true ⌝ }
-    ensures { λ r. ⌜ r ≡ checkOf track (clock .0) size (now (key .entry)) (now (challenge .entry)) (now (presented .entry)) (now (following .entry)) ⌝ }
+    ensures { λ r. ⌜ r ≡ checkOf track (clock .0) size (now (key .entry)) [] (now (presented .entry)) (now (following .entry)) ⌝ }
 {
     let goal = goal_of(track.rule.digits, presented, following);
     let rule = track.rule;
@@ -173,7 +168,7 @@ fn searched_in_lanes(
     used_or_wrong(search_again(goal, rule, key, &keys, first, ranges.used))
 }
 
-// The check of one presented password, or of two as a pair; following is empty where there is one.
+// The check of one presented password, or of two as a pair; following is empty where there is one. A pair has no challenge.
 pub fn check(
     track: Track,
     clock: Seconds,
@@ -190,8 +185,8 @@ pub fn check(
     if !counts_right(track.rule.digits, presented, following) {
         return Outcome::Wrong;
     }
-    if challenge.len() == 0 {
-        return searched_in_lanes(track, clock, size, key, challenge, presented, following);
+    if (challenge.len() != 0) & (following.len() == 0) {
+        return searched(track, clock, size, key, challenge, presented);
     }
-    searched(track, clock, size, key, challenge, presented, following)
+    searched_in_lanes(track, clock, size, key, presented, following)
 }

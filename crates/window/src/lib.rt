@@ -9,7 +9,7 @@ mod range;
 mod search;
 
 pub use arguments::CLOCKS;
-pub use arguments::checkable;
+pub use arguments::in_range;
 pub use checks::check;
 pub use range::COUNTS;
 pub use range::FARTHEST;

@@ -1,4 +1,4 @@
-// Whether a step has the presented passwords.
+// Whether a step has a presented password.
 use crate::Rule;
 use crate::TIME_TOKEN;
 use otp::prepared::password_with;
@@ -7,13 +7,12 @@ use otp::steps::time_at;
 use words::bytes::same;
 ghost use mathlib.Core.Path.{_≡_};
 ghost use mathlib.Core.Bool.{true};
-ghost use Prim.Native.Nat.{_≤_};
 ghost use Rattle.otp.specs.ChainLaws.{prepared};
-ghost use Rattle.window.specs.PasswordAt.{hasPassword};
-ghost use Rattle.window.specs.PasswordAtLaws.{inRange, StepOk, aheadOf, matchesAt};
+ghost use Rattle.window.specs.PasswordAt.{inRange, hasPassword};
+ghost use Rattle.window.specs.PasswordAtLaws.{StepOk, aheadOf};
 
 // The passwords are compared to their end, whatever their first digits.
-fn has_password(
+pub(crate) fn has_password(
     rule: Rule,
     key: &[u8],
     keys: &[u32],
@@ -49,30 +48,4 @@ pub(crate) fn ahead_of(following: &[u8]) -> u64
     ensures { λ r. ⌜ r ≡ aheadOf (now (following .entry)) ⌝ }
 {
     if following.len() == 0 { 0 } else { 1 }
-}
-
-// Whether step a is to be accepted: it has the presented password or, of a pair, the following one, and the step before it the presented one.
-pub(crate) fn matches_at(
-    rule: Rule,
-    key: &[u8],
-    keys: &[u32],
-    challenge: &[u8],
-    presented: &[u8],
-    following: &[u8],
-    a: u64,
-) -> bool
-    requires { ⌜ inRange rule (now key) (now challenge) ≡ true ⌝ }
-    requires { ⌜ now keys ≡ prepared (rule .algorithm) (now key) ⌝ }
-    requires { ⌜ StepOk (rule .kind) a ⌝ }
-    requires { ⌜ aheadOf (now following) ≤ a ⌝ }
-    ensures { λ r. ⌜ r ≡ matchesAt rule (now (key .entry)) (now (challenge .entry)) (now (presented .entry)) (now (following .entry)) a ⌝ }
-{
-    let first = a - ahead_of(following);
-    if !has_password(rule, key, keys, challenge, presented, first) {
-        return false;
-    }
-    if following.len() == 0 {
-        return true;
-    }
-    has_password(rule, key, keys, challenge, following, a)
 }

@@ -1,5 +1,5 @@
 use mathlib.Core.Path.{refl}
-use Rattle.capi.specs.Checked.{write-first}
+use Rattle.capi.specs.CheckedLaws.{write-first}
 use borrow.Author.Needs.{needs}
 use Rattle.capi.proofs.checking.put_outcome.Statement.{statement}
 use Rattle.capi.proofs.checking.put_outcome.Tie as tie

@@ -9,16 +9,7 @@ returns-2 : tie.Need-returns-2
 returns-2 c = rw (ne-eqb (c .before .before .args .number) 1 (c .before .if1 .left), eq-eqb (c .before .before .args .number) 2 (c .if2 .taken))
 
 returns-3 : tie.Need-returns-3
-returns-3 c =
-    let args = c .before .before .before .args in
-    let if1 = c .before .before .if1 in
-    rw (ne-eqb (args .number) 1 (if1 .left), ne-eqb (args .number) 2 (c .before .if2 .left), eq-eqb (args .number) 3 (c .if3 .taken))
-
-returns-4 : tie.Need-returns-4
-returns-4 c =
-    let args = c .before .before .before .args in
-    let if1 = c .before .before .if1 in
-    rw (ne-eqb (args .number) 1 (if1 .left), ne-eqb (args .number) 2 (c .before .if2 .left), ne-eqb (args .number) 3 (c .if3 .left))
+returns-3 c = rw (ne-eqb (c .before .before .args .number) 1 (c .before .if1 .left), ne-eqb (c .before .before .args .number) 2 (c .if2 .left))
 
 pub size-of-spec : {M : Type 1} → statement M
-size-of-spec = tie.close (tie.spec returns returns-2 returns-3 returns-4)
+size-of-spec = tie.close (tie.spec returns returns-2 returns-3)
