@@ -5,7 +5,7 @@ mod rows;
 mod serving;
 mod stream;
 
-use file::serve_file;
+use file::serve_argument;
 use input::TABLE;
 use input::serve_input;
 use libc::STDERR_FILENO;
@@ -20,7 +20,7 @@ fn main() {
     }
     let mut table = [0u8; TABLE];
     if count == 2 {
-        serve_file(&mut table);
+        serve_argument(&mut table);
         return;
     }
     let stage = Stage {
