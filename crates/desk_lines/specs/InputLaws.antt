@@ -20,49 +20,58 @@ use Rattle.desk_lines.specs.ScriptLaws.{served-join, follows-none, follo
 -- ---- parts of a piece
 
 -- what is left of a piece
-rest-of : (piece : List ℕ) (at : ℕ) → take (length piece - at) (drop at piece) ≡ drop at piece
+abbrev rest : List ℕ → ℕ → List ℕ
+rest piece at = take (length piece - at) (drop at piece)
+
+rest-of : (piece : List ℕ) (at : ℕ) → rest piece at ≡ drop at piece
 rest-of piece at = let d = length-drop at piece in take-all (length piece - at) (drop at piece) (omega arith)
 
-rest-length : (piece : List ℕ) (at : ℕ) → length (take (length piece - at) (drop at piece)) ≡ length piece - at
+rest-length : (piece : List ℕ) (at : ℕ) → length (rest piece at) ≡ length piece - at
 rest-length piece at = rw (rest-of piece at) (length-drop at piece)
 
 -- a piece that is not read to its end has bytes left
-pub piece-left : (piece : List ℕ) (at : ℕ) → at < length piece → 1 ≤ length (take (length piece - at) (drop at piece))
+pub piece-left : (piece : List ℕ) (at : ℕ) → at < length piece → 1 ≤ length (rest piece at)
 piece-left piece at l = omega (arith, rest-length piece at)
 
--- a piece at the front of what it was read into
-front-size : (piece : List ℕ) (read : ℕ) → read ≤ length piece → length (take (read - 0) (drop 0 piece)) ≡ read
-front-size piece read l = let z : read - 0 ≡ read = omega arith in rw z (length-take-le read piece l)
-
 -- the first bytes of a piece and the next ones
-next-bytes : (piece : List ℕ) (at used : ℕ) → take (at + used) piece ≡ take at piece ++ take used (take (length piece - at) (drop at piece))
+next-bytes : (piece : List ℕ) (at used : ℕ) → take (at + used) piece ≡ take at piece ++ take used (rest piece at)
 next-bytes piece at used = rw (rest-of piece at) (take-add at used piece)
+
+-- a piece at the front of what it was read into
+front-length : (piece : List ℕ) (read : ℕ) → read ≤ length piece → length (take (read - 0) (drop 0 piece)) ≡ read
+front-length piece read l = let z : read - 0 ≡ read = omega arith in rw z (length-take-le read piece l)
+
+-- ---- what every loop keeps
+
+-- the buffers' lengths, and the bounds of the pending line's and of the table's
+pub record Sized (line table out : List ℕ) (n rows : ℕ) : Type 0 where
+  pub size : length line ≡ 4096
+  pub cells : length table ≡ 24576
+  pub space : length out ≡ 114944
+  pub marked : n ≤ 4097
+  pub few : rows ≤ 256
+
+sized-more : {line table out line′ table′ out′ : List ℕ} {n n′ rows rows′ : ℕ} → Sized line table out n rows
+    → length line′ ≡ length line → length table′ ≡ length table → length out′ ≡ length out → n′ ≤ 4097 → rows′ ≤ 256 → Sized line′ table′ out′ n′ rows′
+sized-more sized size cells space marked few =
+    record { size = size ∙ sized .size; cells = cells ∙ sized .cells; space = space ∙ sized .space; marked = marked; few = few }
 
 module _ (passwords : PasswordRule) where
   -- ---- a piece, until the output is full
 
   -- what the loop of `fill` keeps
   pub record Filling (line₀ : List ℕ) (n : ℕ) (stage : Stage) (piece out₀ line table out : List ℕ) (pending : ℕ) (fresh : Bool) (rows at end : ℕ) : Type 0 where
-    pub size : length line ≡ 4096
-    pub cells : length table ≡ 24576
-    pub space : length out ≡ 114944
-    pub marked : pending ≤ 4097
-    pub few : rows ≤ 256
+    pub sized : Sized line table out pending rows
     pub within : at ≤ length piece
     pub room : end ≤ 114944
     pub begun : end ≤ 49408 * at
     pub follows : Follows passwords line₀ n (take at piece) line pending stage (stageIn fresh rows table) out₀ 0 out end
 
-  pub filling-begin : (line : List ℕ) (n : ℕ) (fresh : Bool) (rows : ℕ) (table piece out : List ℕ)
-      → length line ≡ 4096 → n ≤ 4097 → length table ≡ 24576 → rows ≤ 256 → length out ≡ 114944
+  pub filling-begin : (line : List ℕ) (n : ℕ) (fresh : Bool) (rows : ℕ) (table piece out : List ℕ) → Sized line table out n rows
       → Filling line n (stageIn fresh rows table) piece out line table out n fresh rows 0 0
-  filling-begin line n fresh rows table piece out size marked cells few space =
+  filling-begin line n fresh rows table piece out sized =
       record {
-        size = size;
-        cells = cells;
-        space = space;
-        marked = marked;
-        few = few;
+        sized = sized;
         within = omega arith;
         room = omega arith;
         begun = omega arith;
@@ -80,20 +89,15 @@ module _ (passwords : PasswordRule) where
 
     pub filling-more : {line′ table′ out′ : List ℕ} {used n′ : ℕ} {fresh′ : Bool} {rows′ end′ : ℕ} → ltb at (length piece) && leb end 65536 ≡ true
         → length line′ ≡ length line → length table′ ≡ length table → length out′ ≡ length out
-        → (used ≤ length (take (length piece - at) (drop at piece)))
-        × ((1 ≤ length (take (length piece - at) (drop at piece)) → 1 ≤ used) × ((n′ ≤ 4097) × ((rows′ ≤ 256) × (end′ ≤ end + 49408))))
-        → Follows passwords line pending (take used (take (length piece - at) (drop at piece))) line′ n′ (stageIn fresh rows table) (stageIn fresh′ rows′ table′) out end out′ end′
+        → (used ≤ length (rest piece at)) × ((1 ≤ length (rest piece at) → 1 ≤ used) × ((n′ ≤ 4097) × ((rows′ ≤ 256) × (end′ ≤ end + 49408))))
+        → Follows passwords line pending (take used (rest piece at)) line′ n′ (stageIn fresh rows table) (stageIn fresh′ rows′ table′) out end out′ end′
         → Filling line₀ n stage piece out₀ line′ table′ out′ n′ fresh′ rows′ (at + used) end′
     filling-more {used = used} t size cells space bounds f =
         let more = filling-open t in
         let some = bounds .1 .0 (piece-left piece at (more .0)) in
         let m = rest-length piece at in
         record {
-          size = size ∙ filling .size;
-          cells = cells ∙ filling .cells;
-          space = space ∙ filling .space;
-          marked = bounds .1 .1 .0;
-          few = bounds .1 .1 .1 .0;
+          sized = sized-more (filling .sized) size cells space (bounds .1 .1 .0) (bounds .1 .1 .1 .0);
           within = omega (arith, bounds .0);
           room = omega (arith, bounds .1 .1 .1 .1);
           begun = omega (arith, bounds .1 .1 .1 .1, filling .begun);
@@ -111,44 +115,26 @@ module _ (passwords : PasswordRule) where
 
   -- what the loop of `serve_piece` keeps
   pub record Serving (line₀ : List ℕ) (n : ℕ) (stage : Stage) (piece line table out : List ℕ) (pending : ℕ) (fresh : Bool) (rows at : ℕ) : Type 0 where
-    pub size : length line ≡ 4096
-    pub cells : length table ≡ 24576
-    pub space : length out ≡ 114944
-    pub marked : pending ≤ 4097
-    pub few : rows ≤ 256
+    pub sized : Sized line table out pending rows
     pub within : at ≤ length piece
     pub advances : Advances passwords line₀ n (take at piece) line pending stage (stageIn fresh rows table)
 
-  pub serving-begin : (line : List ℕ) (n : ℕ) (fresh : Bool) (rows : ℕ) (table piece out : List ℕ)
-      → length line ≡ 4096 → n ≤ 4097 → length table ≡ 24576 → rows ≤ 256 → length out ≡ 114944
+  pub serving-begin : (line : List ℕ) (n : ℕ) (fresh : Bool) (rows : ℕ) (table piece out : List ℕ) → Sized line table out n rows
       → Serving line n (stageIn fresh rows table) piece line table out n fresh rows 0
-  serving-begin line n fresh rows table piece out size marked cells few space =
-      record {
-        size = size;
-        cells = cells;
-        space = space;
-        marked = marked;
-        few = few;
-        within = omega arith;
-        advances = advances-none passwords line n (stageIn fresh rows table);
-      }
+  serving-begin line n fresh rows table piece out sized =
+      record { sized = sized; within = omega arith; advances = advances-none passwords line n (stageIn fresh rows table) }
 
   pub serving-more : {line₀ : List ℕ} {n : ℕ} {stage : Stage} {piece line table out : List ℕ} {pending : ℕ} {fresh : Bool} {rows at : ℕ}
       → Serving line₀ n stage piece line table out pending fresh rows at
       → {line′ table′ out′ : List ℕ} {used n′ : ℕ} {fresh′ : Bool} {rows′ end : ℕ}
       → length line′ ≡ length line → length table′ ≡ length table → length out′ ≡ length out
-      → (used ≤ length (take (length piece - at) (drop at piece)))
-      × ((1 ≤ length (take (length piece - at) (drop at piece)) → 1 ≤ used) × ((n′ ≤ 4097) × ((rows′ ≤ 256) × (end ≤ 114944))))
-      → Follows passwords line pending (take used (take (length piece - at) (drop at piece))) line′ n′ (stageIn fresh rows table) (stageIn fresh′ rows′ table′) out 0 out′ end
+      → (used ≤ length (rest piece at)) × ((1 ≤ length (rest piece at) → 1 ≤ used) × ((n′ ≤ 4097) × ((rows′ ≤ 256) × (end ≤ 114944))))
+      → Follows passwords line pending (take used (rest piece at)) line′ n′ (stageIn fresh rows table) (stageIn fresh′ rows′ table′) out 0 out′ end
       → Serving line₀ n stage piece line′ table′ out′ n′ fresh′ rows′ (at + used)
   serving-more {piece = piece} {at = at} serving {used = used} size cells space bounds f =
       let m = rest-length piece at in
       record {
-        size = size ∙ serving .size;
-        cells = cells ∙ serving .cells;
-        space = space ∙ serving .space;
-        marked = bounds .1 .1 .0;
-        few = bounds .1 .1 .1 .0;
+        sized = sized-more (serving .sized) size cells space (bounds .1 .1 .0) (bounds .1 .1 .1 .0);
         within = omega (arith, bounds .0);
         advances = rw (next-bytes piece at used) (advances-join passwords (serving .advances) (follows-advances passwords f));
       }
@@ -156,16 +142,10 @@ module _ (passwords : PasswordRule) where
   module _ {line₀ : List ℕ} {n : ℕ} {stage : Stage} {piece line table out : List ℕ} {pending : ℕ} {fresh : Bool} {rows at : ℕ}
       (serving : Serving line₀ n stage piece line table out pending fresh rows at) where
     pub piece-stopped : Bounds false (length piece) at pending rows
-    piece-stopped =
-        record {
-          part = serving .within;
-          all = clash refl;
-          marked = serving .marked;
-          few = serving .few;
-        }
+    piece-stopped = record { part = serving .within; all = clash refl; marked = serving .sized .marked; few = serving .sized .few }
 
     pub piece-done : length piece ≤ at → Bounds true (length piece) at pending rows
-    piece-done l = record { part = serving .within; all = λ t. omega (arith, serving .within); marked = serving .marked; few = serving .few }
+    piece-done l = record { part = serving .within; all = λ t. omega (arith, serving .within); marked = serving .sized .marked; few = serving .sized .few }
 
   -- nothing was read
   pub none-served : (n rows : ℕ) → n ≤ 4097 → rows ≤ 256 → (ok : Bool) → Bounds ok 0 0 n rows
@@ -178,7 +158,7 @@ module _ (passwords : PasswordRule) where
       → ((read ≤ 65536) × Bounds ok read used n′ rows) × Advances passwords line n (take used piece) line′ n′ stage after
   next-served piece count {used = used} buffer l bounds f =
       let z : count - 0 ≡ count = omega arith in
-      let m = front-size piece count l in
+      let m = front-length piece count l in
       let k : used ≤ count = omega (arith, bounds .0, bounds .1 .part) in
       ((omega (arith, bounds .0), bounds .1), rw (z, take-take used count piece k) at f)
 
@@ -186,27 +166,14 @@ module _ (passwords : PasswordRule) where
 
   -- what the loop of `serve_pieces` keeps
   pub record Reading (stage : Stage) (line table piece out : List ℕ) (n : ℕ) (fresh : Bool) (rows : ℕ) : Type 0 where
-    pub size : length line ≡ 4096
-    pub cells : length table ≡ 24576
+    pub sized : Sized line table out n rows
     pub buffer : length piece ≡ 65536
-    pub space : length out ≡ 114944
-    pub marked : n ≤ 4097
-    pub few : rows ≤ 256
     pub leaves : Leaves passwords stage line n (stageIn fresh rows table)
 
-  pub reading-begin : (line : List ℕ) (fresh : Bool) (rows : ℕ) (table piece out : List ℕ)
-      → length line ≡ 4096 → length table ≡ 24576 → rows ≤ 256 → length piece ≡ 65536 → length out ≡ 114944
+  pub reading-begin : (line : List ℕ) (fresh : Bool) (rows : ℕ) (table piece out : List ℕ) → Sized line table out 0 rows → length piece ≡ 65536
       → Reading (stageIn fresh rows table) line table piece out 0 fresh rows
-  reading-begin line fresh rows table piece out size cells few buffer space =
-      record {
-        size = size;
-        cells = cells;
-        buffer = buffer;
-        space = space;
-        marked = omega arith;
-        few = few;
-        leaves = leaves-none passwords line (stageIn fresh rows table);
-      }
+  reading-begin line fresh rows table piece out sized buffer =
+      record { sized = sized; buffer = buffer; leaves = leaves-none passwords line (stageIn fresh rows table) }
 
   pub reading-more : {stage : Stage} {line table piece out : List ℕ} {n : ℕ} {fresh : Bool} {rows : ℕ} → Reading stage line table piece out n fresh rows
       → {line′ table′ piece′ out′ bytes : List ℕ} {ok : Bool} {read used n′ : ℕ} {fresh′ : Bool} {rows′ : ℕ}
@@ -215,12 +182,8 @@ module _ (passwords : PasswordRule) where
       → Reading stage line′ table′ piece′ out′ n′ fresh′ rows′
   reading-more reading size cells buffer space bounds f =
       record {
-        size = size ∙ reading .size;
-        cells = cells ∙ reading .cells;
+        sized = sized-more (reading .sized) size cells space (bounds .marked) (bounds .few);
         buffer = buffer ∙ reading .buffer;
-        space = space ∙ reading .space;
-        marked = bounds .marked;
-        few = bounds .few;
         leaves = leaves-more passwords (reading .leaves) f;
       }
 

@@ -1,7 +1,7 @@
 -- What each function of the code returns, over what the functions that it calls ensure.
 use Prim.Native.Nat.{ℕ, _+_, _-_, _*_, _≤_, _<_}
 use mathlib.Core.Path.{_≡_, refl, sym, ap, _∙_}
-use mathlib.Core.Bool.{Bool, true, false}
+use mathlib.Core.Bool.{Bool, false}
 use mathlib.Core.List.{List, [], _∷_, _++_, flatten, append-assoc, append-nil}
 use native.Mathlib.Numerals.{add-one}
 use native.Mathlib.Omega.{arith}
@@ -174,9 +174,13 @@ module _ (line₀ : List ℕ) (n : ℕ) (piece out₀ : List ℕ) where
 -- ---- the input
 
 -- a piece was fed that stands at the front of what it was read into
-pub piece-fed : (line : List ℕ) (n : ℕ) (piece : List ℕ) (read : ℕ) {after : List ℕ} {m : ℕ} {text : List ℕ}
-    → Follows line n (take (read - 0) (drop 0 piece)) after m text → Follows line n (take read piece) after m text
-piece-fed line n piece read f = let z : read - 0 ≡ read = omega arith in rw z at f
+pub next-fed : (line : List ℕ) (n : ℕ) (piece out : List ℕ) (read : ℕ) {after : List ℕ} {m written : ℕ} {text : List ℕ}
+    → length piece ≡ 65536 → length out ≡ 720896 → read ≤ length piece → (m ≤ 257) × (written ≤ length out)
+    → Follows line n (take (read - 0) (drop 0 piece)) after m text
+    → ((read ≤ 65536) × ((m ≤ 257) × (written ≤ 720896))) × Follows line n (take read piece) after m text
+next-fed line n piece out read buffer space l bounds f =
+    let z : read - 0 ≡ read = omega arith in
+    ((omega arith, (bounds .0, omega (arith, bounds .1))), rw z at f)
 
 pub input-stopped : {line : List ℕ} {n : ℕ} {text : List ℕ} {ok : Bool} → ok ≡ false → Leaves line n → Answers ok line n text
 input-stopped f l = record { left = l; printed = clash f }

@@ -12,7 +12,7 @@ same-length : tie.Need-same-length
 same-length c = search needs
 
 returns : tie.Need-returns
-returns c = search needs
+returns c = c .before .before .before .before .before .serve-input .ensures .1
 
 mul-size : tie.Need-mul-size
 mul-size c = search needs

@@ -1,6 +1,5 @@
 use mathlib.Core.Bool.{false}
 use mathlib.Core.Path.{_∙_}
-use native.Mathlib.Omega.{arith}
 use borrow.Author.Needs.{needs}
 use Rattle.window.specs.PasswordAt.{passwordAt}
 use Rattle.desk_lines.specs.Script.{stageIn}

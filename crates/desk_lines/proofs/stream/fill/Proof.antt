@@ -1,5 +1,5 @@
-use Prim.Native.Nat.{_-_, _≤_, _<_}
-use mathlib.Core.Path.{_≡_, sym, _∙_}
+use Prim.Native.Nat.{_-_}
+use mathlib.Core.Path.{sym, _∙_}
 use lib.ListN.{length}
 use native.Mathlib.Omega.{arith}
 use borrow.Author.Needs.{needs}
@@ -19,7 +19,7 @@ loop-holds : tie.Need-loop-holds Inv-loop μ-loop
 loop-holds c =
     let args = c .before .before .before .before .args in
     let pre = c .before .before .before .before .pre in
-    filling-begin passwordAt (args .line .now) (args .n) (args .stage .fresh) (args .stage .rows) (args .table .now) (args .piece .now) (args .out .now) (pre .0) (pre .1 .0) (pre .1 .1 .0) (pre .1 .1 .1 .0) (pre .1 .1 .1 .1)
+    filling-begin passwordAt (args .line .now) (args .n) (args .stage .fresh) (args .stage .rows) (args .table .now) (args .piece .now) (args .out .now) (record { size = pre .0; cells = pre .1 .1 .0; space = pre .1 .1 .1 .1; marked = pre .1 .0; few = pre .1 .1 .1 .0 })
 
 sub-feed : tie.Need-sub-feed Inv-loop μ-loop
 sub-feed c = search needs
@@ -34,7 +34,7 @@ feed-requires : tie.Need-feed-requires Inv-loop μ-loop
 feed-requires c κs =
     let loop = c .before .before .before .before .before .loop in
     let more = filling-open passwordAt (loop .inv) (c .before .before .before .before .loop-test .taken) in
-    (loop .inv .size, (loop .inv .marked, (loop .inv .cells, (loop .inv .few, omega (arith, more .1, loop .inv .space)))))
+    (loop .inv .sized .size, (loop .inv .sized .marked, (loop .inv .sized .cells, (loop .inv .sized .few, omega (arith, more .1, loop .inv .sized .space)))))
 
 add-at : tie.Need-add-at Inv-loop μ-loop
 add-at c =
@@ -54,16 +54,16 @@ loop-again c =
     filling-more passwordAt (c .before .before .before .before .before .before .before .before .before .before .before .before .before .loop .inv) (c .before .before .before .before .before .before .before .before .before .before .before .before .loop-test .taken) (feed .kept .0) (feed .kept .1 .1 .0) (feed .kept .1 .1 .1 .1 .1 .0) (feed .ensures .0) (feed .ensures .1)
 
 same-length : tie.Need-same-length Inv-loop μ-loop
-same-length c = c .before .loop .inv .size ∙ sym (c .before .before .before .before .before .before .pre .0)
+same-length c = c .before .loop .inv .sized .size ∙ sym (c .before .before .before .before .before .before .pre .0)
 
 same-length-2 : tie.Need-same-length-2 Inv-loop μ-loop
-same-length-2 c = c .before .loop .inv .cells ∙ sym (c .before .before .before .before .before .before .pre .1 .1 .0)
+same-length-2 c = c .before .loop .inv .sized .cells ∙ sym (c .before .before .before .before .before .before .pre .1 .1 .0)
 
 same-length-3 : tie.Need-same-length-3 Inv-loop μ-loop
-same-length-3 c = c .before .loop .inv .space ∙ sym (c .before .before .before .before .before .before .pre .1 .1 .1 .1)
+same-length-3 c = c .before .loop .inv .sized .space ∙ sym (c .before .before .before .before .before .before .pre .1 .1 .1 .1)
 
 returns : tie.Need-returns Inv-loop μ-loop
-returns c = ((c .before .loop .inv .within, (filling-used passwordAt (c .before .loop .inv) (c .loop-test .left), (c .before .loop .inv .marked, (c .before .loop .inv .few, c .before .loop .inv .room)))), c .before .loop .inv .follows)
+returns c = ((c .before .loop .inv .within, (filling-used passwordAt (c .before .loop .inv) (c .loop-test .left), (c .before .loop .inv .sized .marked, (c .before .loop .inv .sized .few, c .before .loop .inv .room)))), c .before .loop .inv .follows)
 
 pub fill-spec : {M : Type 1} → statement M
 fill-spec =

@@ -1,7 +1,7 @@
-use native.Mathlib.Omega.{arith}
+use mathlib.Core.Path.{_∙_}
 use borrow.Author.Needs.{needs}
 use Rattle.otp_lines.specs.StreamLaws.{follows-none}
-use Rattle.otp_lines.specs.ReturnLaws.{piece-fed}
+use Rattle.otp_lines.specs.ReturnLaws.{next-fed}
 use Rattle.otp_lines.proofs.input.answer_next.Statement.{statement}
 use Rattle.otp_lines.proofs.input.answer_next.Tie as tie
 
@@ -55,7 +55,11 @@ same-length-4 c = search needs
 returns-2 : tie.Need-returns-2
 returns-2 c =
     let args = c .before .before .before .before .before .before .before .before .before .before .before .before .before .before .before .before .before .before .before .before .before .before .args in
-    (search needs, piece-fed (args .line .now) (args .n) (c .before .before .before .before .before .before .before .before .before .before .before .before .before .before .before .before .before .read .last .1 .0) (c .before .before .before .before .before .before .before .before .before .before .before .before .count .result) (c .before .before .before .before .before .before .before .feed .ensures .1))
+    let pre = c .before .before .before .before .before .before .before .before .before .before .before .before .before .before .before .before .before .before .before .before .before .before .pre in
+    let read = c .before .before .before .before .before .before .before .before .before .before .before .before .before .before .before .before .before .read in
+    let count = c .before .before .before .before .before .before .before .before .before .before .before .before .count in
+    let feed = c .before .before .before .before .before .before .before .feed in
+    next-fed (args .line .now) (args .n) (read .last .1 .0) (args .out .now) (count .result) (read .kept .1 .0 ∙ pre .1 .1 .0) (pre .1 .1 .1) (count .ensures .0 .0) (feed .ensures .0) (feed .ensures .1)
 
 pub answer-next-spec : {M : Type 1} → statement M
 answer-next-spec =
