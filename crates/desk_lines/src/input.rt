@@ -4,12 +4,13 @@ use crate::serving::Stage;
 use crate::stream::fill;
 use crate::stream::finish;
 use libc::STDIN_FILENO;
+use libc::STDOUT_FILENO;
 ghost use mathlib.Core.Path.{_≡_};
 ghost use mathlib.Core.Bool.{true};
 ghost use Prim.Native.Nat.{_≤_};
 ghost use lib.ListN.{length, take};
 ghost use Rattle.window.specs.PasswordAt.{passwordAt};
-ghost use Rattle.desk_lines.specs.Script.{stageIn, Bounds, Advances, Leaves, ServesInput};
+ghost use Rattle.desk_lines.specs.Script.{start, stageIn, Bounds, Advances, Leaves, ServesInput};
 
 // 256 rows.
 pub(crate) const TABLE: usize = 24576;
@@ -195,4 +196,16 @@ pub(crate) fn serve_input(to: i32, table: &mut [u8], stage: Stage) -> Done
         fresh: last.fresh,
         rows: last.rows,
     }
+}
+
+// Serves all lines of standard input on a table of the program's own, which the first line makes.
+pub(crate) fn serve_own_table(table: &mut [u8]) -> Done
+    requires { ⌜ length (now table) ≡ 24576 ⌝ }
+    ensures { λ r. ⌜ ServesInput passwordAt (r .ok) start (stageIn (r .fresh) (r .rows) (now (table .exit))) ⌝ }
+{
+    let stage = Stage {
+        fresh: true,
+        rows: 0,
+    };
+    serve_input(STDOUT_FILENO, table, stage)
 }
