@@ -3,5 +3,6 @@ pub mod Script
 pub mod ScriptLaws
 pub mod RowsLaws
 pub mod ReturnLaws
+pub mod InputLaws
 pub mod LedgerScript
 pub mod LedgerScriptLaws

@@ -7,7 +7,7 @@ use mathlib.Core.Option.{Option, none, some}
 use native.Mathlib.Omega.{arith}
 use borrow.Author.Tests.{lt-leb, le-leb}
 use lib.Dec.{leb}
-use lib.ListN.{length, take, drop, set, replicate, length-append, length-drop, length-replicate}
+use lib.ListN.{length, take, drop, set, replicate, length-append, length-replicate}
 use lib.Seq.{length-take-le, take-at, take-append-seam, take-length}
 use Rattle.words.specs.Lists.{sameBytes}
 use Rattle.words.specs.ListsLaws.{by-test, and-false, same-lengths}
@@ -207,9 +207,3 @@ module _ (passwords : PasswordRule) (line : List ℕ) (n : ℕ) where
   unfolding last
   end-line [] held z f = absurd (z (held-some line n held))
   end-line (b ∷ p) held z f = f
-
--- ---- the pieces
-
--- a piece that is not read to its end has bytes left
-pub piece-left : (piece : List ℕ) (at : ℕ) → at < length piece → 1 ≤ length (take (length piece - at) (drop at piece))
-piece-left piece at l = let d = length-drop at piece in rw (length-take-le (length piece - at) (drop at piece) (omega arith)) (omega arith)

@@ -1,5 +1,5 @@
 -- What the program desk_lines prints for its lines (docs/DESK-LINES.md), whole and where the input comes in pieces.
-use Prim.Native.Nat.{ℕ, zero, suc, _*_, _/_, _%_}
+use Prim.Native.Nat.{ℕ, zero, suc, _*_, _/_, _%_, _≤_}
 use mathlib.Core.Path.{_≡_}
 use mathlib.Core.Bool.{Bool, true, false, _&&_, cond}
 use mathlib.Core.List.{List, [], _∷_, _++_}
@@ -108,3 +108,30 @@ pub record Follows (passwords : PasswordRule) (line : List ℕ) (n : ℕ) (piece
     (stage after : Stage) (out : List ℕ) (at : ℕ) (out′ : List ℕ) (end : ℕ) : Type 0 where
   pub pending : (p : List ℕ) → Held line n p → Held line′ n′ (cut p piece .pending)
   pub serving : (p : List ℕ) → Held line n p → Serves passwords (cut p piece .whole) stage after out at out′ end
+
+-- how many bytes of a piece are served: all, where all that they printed is written out; the pending line's length and the table's rows are in bounds
+pub record Bounds (ok : Bool) (read used n rows : ℕ) : Type 0 where
+  pub part : used ≤ read
+  pub all : ok ≡ true → used ≡ read
+  pub marked : n ≤ 4097
+  pub few : rows ≤ 256
+
+-- a piece was served, whatever became of what it printed: the buffers hold the new pending line and the table after the lines that ended
+pub record Advances (passwords : PasswordRule) (line : List ℕ) (n : ℕ) (piece line′ : List ℕ) (n′ : ℕ) (stage after : Stage) : Type 0 where
+  pub pending : (p : List ℕ) → Held line n p → Held line′ n′ (cut p piece .pending)
+  pub staged : (p : List ℕ) → Held line n p → after ≡ servedAll passwords (cut p piece .whole) stage .stage
+
+-- an input was served up to the last line feed in it: the buffers hold the line that none has ended and the table after the lines before it
+pub record Leaves (passwords : PasswordRule) (stage : Stage) (line : List ℕ) (n : ℕ) (after : Stage) : Type 0 where
+  pub input : List ℕ
+  pub pending : Held line n (cut [] input .pending)
+  pub staged : after ≡ servedAll passwords (cut [] input .whole) stage .stage
+
+-- the first lines of an input were served, all of them where all was read and written out
+pub record ServesInput (passwords : PasswordRule) (ok : Bool) (stage after : Stage) : Type 0 where
+  pub input : List ℕ
+  pub lines : List (List ℕ)
+  pub rest : List (List ℕ)
+  pub split : linesOf input ≡ lines ++ rest
+  pub all : ok ≡ true → rest ≡ []
+  pub staged : after ≡ servedAll passwords lines stage .stage

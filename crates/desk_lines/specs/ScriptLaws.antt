@@ -8,7 +8,7 @@ use Rattle.lines.specs.Lines.{cut, last, Held, Put}
 use Rattle.lines.specs.LinesLaws.{pieces-do-not-matter, lines-cut}
 use Rattle.lines.specs.BufferLaws.{held-nothing, put-join}
 use Rattle.window.specs.PasswordAt.{PasswordRule}
-use Rattle.desk_lines.specs.Script.{Stage, following, served, servedAll, start, outputOf, Serves, Follows}
+use Rattle.desk_lines.specs.Script.{Stage, following, served, servedAll, start, outputOf, Serves, Follows, Advances, Leaves}
 
 module _ (passwords : PasswordRule) where
   -- lines behind others
@@ -45,6 +45,10 @@ module _ (passwords : PasswordRule) where
         staged = rw (served-join a b stage, ← f .staged) (g .staged);
       }
 
+  pub follows-none : (line : List ℕ) (n : ℕ) (stage : Stage) (out : List ℕ) (at : ℕ) → Follows passwords line n [] line n stage stage out at out at
+  unfolding cut
+  follows-none line n stage out at = record { pending = λ p h. h; serving = λ p h. serves-none stage out at }
+
   pub follows-join : {line line₁ line₂ a b : List ℕ} {n n₁ n₂ : ℕ} {stage middle after : Stage} {out out₁ out₂ : List ℕ} {at end stop : ℕ}
       → Follows passwords line n a line₁ n₁ stage middle out at out₁ end → Follows passwords line₁ n₁ b line₂ n₂ middle after out₁ end out₂ stop
       → Follows passwords line n (a ++ b) line₂ n₂ stage after out at out₂ stop
@@ -74,3 +78,42 @@ module _ (passwords : PasswordRule) where
   follows-output {line} {input} f g =
       written-join (f .serving [] (held-nothing line)) (g (cut [] input .pending) (f .pending [] (held-nothing line)))
       ∙ ap (λ (ls : List (List ℕ)). servedAll passwords ls start .text) (sym (lines-cut input))
+
+  -- ---- the pending line and the table, whatever became of what was printed
+
+  pub follows-advances : {line piece line′ : List ℕ} {n n′ : ℕ} {stage after : Stage} {out out′ : List ℕ} {at end : ℕ}
+      → Follows passwords line n piece line′ n′ stage after out at out′ end → Advances passwords line n piece line′ n′ stage after
+  follows-advances f = record { pending = f .pending; staged = λ p h. f .serving p h .staged }
+
+  pub advances-none : (line : List ℕ) (n : ℕ) (stage : Stage) → Advances passwords line n [] line n stage stage
+  unfolding cut servedAll
+  advances-none line n stage = record { pending = λ p h. h; staged = λ p h. refl }
+
+  -- the table after one piece and then another
+  staged-join : (p a b : List ℕ) (stage : Stage) {middle after : Stage} → middle ≡ servedAll passwords (cut p a .whole) stage .stage
+      → after ≡ servedAll passwords (cut (cut p a .pending) b .whole) middle .stage → after ≡ servedAll passwords (cut p (a ++ b) .whole) stage .stage
+  staged-join p a b stage e f = rw (pieces-do-not-matter p a b, served-join (cut p a .whole) (cut (cut p a .pending) b .whole) stage, ← e) f
+
+  pub advances-join : {line line₁ line₂ a b : List ℕ} {n n₁ n₂ : ℕ} {stage middle after : Stage}
+      → Advances passwords line n a line₁ n₁ stage middle → Advances passwords line₁ n₁ b line₂ n₂ middle after
+      → Advances passwords line n (a ++ b) line₂ n₂ stage after
+  advances-join {a = a} {b} {stage = stage} f g =
+      record {
+        pending = λ p h. rw (pieces-do-not-matter p a b) (g .pending (cut p a .pending) (f .pending p h));
+        staged = λ p h. staged-join p a b stage (f .staged p h) (g .staged (cut p a .pending) (f .pending p h));
+      }
+
+  pub leaves-none : (line : List ℕ) (stage : Stage) → Leaves passwords stage line 0 stage
+  unfolding cut servedAll
+  leaves-none line stage = record { input = []; pending = held-nothing line; staged = refl }
+
+  -- a piece behind the input so far
+  pub leaves-more : {line piece line′ : List ℕ} {n n′ : ℕ} {stage middle after : Stage}
+      → Leaves passwords stage line n middle → Advances passwords line n piece line′ n′ middle after → Leaves passwords stage line′ n′ after
+  leaves-more {piece = piece} {stage = stage} l f =
+      let p = cut [] (l .input) .pending in
+      record {
+        input = l .input ++ piece;
+        pending = rw (pieces-do-not-matter [] (l .input) piece) (f .pending p (l .pending));
+        staged = staged-join [] (l .input) piece stage (l .staged) (f .staged p (l .pending));
+      }

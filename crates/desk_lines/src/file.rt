@@ -1,5 +1,6 @@
 // The table in a file. The answers are kept aside until the new table is on disk under the file's name: a crash leaves the old table or the new one,
 // and no answer is printed whose table is not on disk.
+use crate::input::Done;
 use crate::input::serve_input;
 use crate::serving::Stage;
 use libc::PATH_MAX;
@@ -8,8 +9,11 @@ use libc::STDOUT_FILENO;
 use lines::put;
 use row::ROW_BYTES;
 ghost use mathlib.Core.Path.{_≡_};
+ghost use mathlib.Core.Bool.{false};
 ghost use Prim.Native.Nat.{_+_, _≤_};
 ghost use lib.ListN.{length};
+ghost use Rattle.window.specs.PasswordAt.{passwordAt};
+ghost use Rattle.desk_lines.specs.Script.{stageIn, ServesInput};
 
 // A path, and behind it the letters that make it the name of a new file.
 const NAME: usize = PATH_MAX + 7;
@@ -140,29 +144,25 @@ fn replace(path: &[u8], table: &[u8]) -> bool
     flush_folder(path)
 }
 
-// Serves the input on the file's table, keeps the answers aside and saves the table.
-fn serve_and_save(path: &[u8], table: &mut [u8], answers: i32) -> bool
+// Serves the input on the table that the file held, keeps the answers aside and saves the table.
+fn serve_file(path: &[u8], table: &mut [u8], rows: usize, answers: i32) -> Done
     requires { ⌜ length (now path) ≤ 4096 ⌝ }
     requires { ⌜ length (now table) ≡ 24576 ⌝ }
+    requires { ⌜ rows ≤ 256 ⌝ }
+    ensures { λ r. ⌜ ServesInput passwordAt (r .ok) (stageIn false rows (now (table .entry))) (stageIn (r .fresh) (r .rows) (now (table .exit))) ⌝ }
 {
-    let loaded = load(path, table);
-    if !loaded.ok {
-        return false;
-    }
-    let stage = Stage {
-        fresh: false,
-        rows: loaded.rows,
-    };
+    let stage = Stage { fresh: false, rows };
     let served = serve_input(answers, table, stage);
-    if !served.ok {
-        return false;
-    }
     // A file that is no table stays as it is.
-    if served.rows == 0 {
-        return true;
+    if !served.ok | (served.rows == 0) {
+        return served;
     }
     let size = ROW_BYTES * served.rows;
-    replace(path, &table[0..size])
+    Done {
+        ok: replace(path, &table[0..size]),
+        fresh: served.fresh,
+        rows: served.rows,
+    }
 }
 
 // Prints the answers that were kept aside.
@@ -187,7 +187,7 @@ fn print_answers(answers: i32) -> bool {
 }
 
 // Serves the input on the table in the file that the program's argument names.
-pub(crate) fn serve_file(table: &mut [u8])
+pub(crate) fn serve_argument(table: &mut [u8])
     requires { ⌜ length (now table) ≡ 24576 ⌝ }
 {
     let mut path = [0u8; PATH_MAX];
@@ -197,7 +197,12 @@ pub(crate) fn serve_file(table: &mut [u8])
         not_saved(&path[0..n]);
         return;
     }
-    if !serve_and_save(&path[0..n], table, answers) {
+    let loaded = load(&path[0..n], table);
+    if !loaded.ok {
+        not_saved(&path[0..n]);
+        return;
+    }
+    if !serve_file(&path[0..n], table, loaded.rows, answers).ok {
         not_saved(&path[0..n]);
         return;
     }

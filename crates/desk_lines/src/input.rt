@@ -1,12 +1,16 @@
 // The whole input: read in pieces, and what its lines print written out.
 use crate::serving::LONGEST;
 use crate::serving::Stage;
-use crate::stream::feed;
+use crate::stream::fill;
 use crate::stream::finish;
 use libc::STDIN_FILENO;
+use libc::STDOUT_FILENO;
 ghost use mathlib.Core.Path.{_≡_};
+ghost use mathlib.Core.Bool.{true};
 ghost use Prim.Native.Nat.{_≤_};
-ghost use lib.ListN.{length};
+ghost use lib.ListN.{length, take};
+ghost use Rattle.window.specs.PasswordAt.{passwordAt};
+ghost use Rattle.desk_lines.specs.Script.{start, stageIn, Bounds, Advances, Leaves, ServesInput};
 
 // 256 rows.
 pub(crate) const TABLE: usize = 24576;
@@ -16,27 +20,14 @@ const PIECE: usize = 65536;
 // Beside what is not written out yet, room for all rows as text.
 const OUTPUT: usize = 114944;
 
-// Above it there may be no room for all rows.
-const FULL: usize = 65536;
-
-// Whether all was read and all that was printed is written out, the pending line's length, and the stage.
+// Whether the read and the writes went well, how many bytes were read, how many of them are served, the pending line's length, and the stage.
 pub(crate) struct Progress {
     pub(crate) ok: bool,
+    pub(crate) read: usize,
+    pub(crate) used: usize,
     pub(crate) n: usize,
     pub(crate) fresh: bool,
     pub(crate) rows: usize,
-}
-
-// A read or a write failed. errno still says why.
-fn stopped(rows: usize) -> Progress
-    ensures { λ r. ⌜ (r .n ≤ 4097) × (r .rows ≡ rows) ⌝ }
-{
-    Progress {
-        ok: false,
-        n: 0,
-        fresh: false,
-        rows,
-    }
 }
 
 // Serves the lines that end in a piece, and writes out what they print.
@@ -54,63 +45,103 @@ fn serve_piece(
     requires { ⌜ length (now table) ≡ 24576 ⌝ }
     requires { ⌜ stage .rows ≤ 256 ⌝ }
     requires { ⌜ length (now out) ≡ 114944 ⌝ }
-    ensures { λ r. ⌜ (r .n ≤ 4097) × (r .rows ≤ 256) ⌝ }
+    ensures { λ r. ⌜ (r .read ≡ length (now (piece .entry))) × Bounds (r .ok) (r .read) (r .used) (r .n) (r .rows) ⌝ }
+    ensures { λ r. ⌜ Advances passwordAt (now (line .entry)) n (take (r .used) (now (piece .entry))) (now (line .exit)) (r .n) (stageIn (stage .fresh) (stage .rows) (now (table .entry))) (stageIn (r .fresh) (r .rows) (now (table .exit))) ⌝ }
 {
     let mut pending = n;
     let mut fresh = stage.fresh;
     let mut rows = stage.rows;
     let mut at = 0;
-    let mut end = 0;
     while at < piece.len() {
         let now = Stage { fresh, rows };
-        let fed = feed(line, pending, table, now, &piece[at..piece.len()], out, end);
+        let fed = fill(line, pending, table, now, &piece[at..piece.len()], out);
         at += fed.used;
         pending = fed.n;
         fresh = fed.fresh;
         rows = fed.rows;
-        end = fed.end;
-        if FULL < end {
-            if !io::write_all(to, &out[0..end]) {
-                return stopped(rows);
-            }
-            end = 0;
+        let end = fed.end;
+        if !io::write_all(to, &out[0..end]) {
+            return Progress {
+                ok: false,
+                read: piece.len(),
+                used: at,
+                n: pending,
+                fresh,
+                rows,
+            };
         }
     }
     Progress {
-        ok: io::write_all(to, &out[0..end]),
+        ok: true,
+        read: piece.len(),
+        used: at,
         n: pending,
         fresh,
         rows,
     }
 }
 
-// Serves all lines of standard input.
-pub(crate) fn serve_input(to: i32, table: &mut [u8], stage: Stage) -> Progress
+// Reads a piece, none at the end of the input, and serves it.
+fn serve_next(
+    to: i32,
+    line: &mut [u8],
+    n: usize,
+    table: &mut [u8],
+    stage: Stage,
+    piece: &mut [u8],
+    out: &mut [u8],
+) -> Progress
+    requires { ⌜ length (now line) ≡ 4096 ⌝ }
+    requires { ⌜ n ≤ 4097 ⌝ }
     requires { ⌜ length (now table) ≡ 24576 ⌝ }
     requires { ⌜ stage .rows ≤ 256 ⌝ }
-    ensures { λ r. ⌜ r .rows ≤ 256 ⌝ }
+    requires { ⌜ length (now piece) ≡ 65536 ⌝ }
+    requires { ⌜ length (now out) ≡ 114944 ⌝ }
+    ensures { λ r. ⌜ (r .read ≤ 65536) × Bounds (r .ok) (r .read) (r .used) (r .n) (r .rows) ⌝ }
+    ensures { λ r. ⌜ Advances passwordAt (now (line .entry)) n (take (r .used) (now (piece .exit))) (now (line .exit)) (r .n) (stageIn (stage .fresh) (stage .rows) (now (table .entry))) (stageIn (r .fresh) (r .rows) (now (table .exit))) ⌝ }
 {
-    let mut line = [0u8; LONGEST];
-    let mut piece = [0u8; PIECE];
-    let mut out = [0u8; OUTPUT];
+    let got = libc::read(STDIN_FILENO, piece);
+    // errno still says why.
+    if got < 0 {
+        return Progress {
+            ok: false,
+            read: 0,
+            used: 0,
+            n,
+            fresh: stage.fresh,
+            rows: stage.rows,
+        };
+    }
+    let read = io::count(got, piece);
+    serve_piece(to, line, n, table, stage, &piece[0..read], out)
+}
+
+// Serves the pieces of the input up to its end, and leaves the pending line.
+fn serve_pieces(
+    to: i32,
+    line: &mut [u8],
+    table: &mut [u8],
+    stage: Stage,
+    piece: &mut [u8],
+    out: &mut [u8],
+) -> Progress
+    requires { ⌜ length (now line) ≡ 4096 ⌝ }
+    requires { ⌜ length (now table) ≡ 24576 ⌝ }
+    requires { ⌜ stage .rows ≤ 256 ⌝ }
+    requires { ⌜ length (now piece) ≡ 65536 ⌝ }
+    requires { ⌜ length (now out) ≡ 114944 ⌝ }
+    ensures { λ r. ⌜ (r .ok ≡ true → r .read ≡ 0) × ((r .n ≤ 4097) × (r .rows ≤ 256)) ⌝ }
+    ensures { λ r. ⌜ Leaves passwordAt (stageIn (stage .fresh) (stage .rows) (now (table .entry))) (now (line .exit)) (r .n) (stageIn (r .fresh) (r .rows) (now (table .exit))) ⌝ }
+{
     let mut n = 0;
     let mut fresh = stage.fresh;
     let mut rows = stage.rows;
     // A proved loop has to end, and nothing says that the input does: no run uses up these turns.
     let mut turns = u64::MAX;
     while turns > 0 {
-        let got = libc::read(STDIN_FILENO, &mut piece);
-        // The pending line may not be whole, so it has no answer.
-        if got < 0 {
-            return stopped(rows);
-        }
-        let count = io::count(got, &piece);
-        if count == 0 {
-            break;
-        }
         let now = Stage { fresh, rows };
-        let served = serve_piece(to, &mut line, n, table, now, &piece[0..count], &mut out);
-        if !served.ok {
+        let served = serve_next(to, line, n, table, now, piece, out);
+        if !served.ok | (served.read == 0) {
             return served;
         }
         n = served.n;
@@ -118,13 +149,63 @@ pub(crate) fn serve_input(to: i32, table: &mut [u8], stage: Stage) -> Progress
         rows = served.rows;
         turns -= 1;
     }
-    let now = Stage { fresh, rows };
-    let last = finish(&line, n, table, now, &mut out);
-    let end = last.end;
     Progress {
+        ok: false,
+        read: 0,
+        used: 0,
+        n,
+        fresh,
+        rows,
+    }
+}
+
+// Whether all was read and all that was printed is written out, and the stage.
+pub(crate) struct Done {
+    pub(crate) ok: bool,
+    pub(crate) fresh: bool,
+    pub(crate) rows: usize,
+}
+
+// Serves all lines of standard input.
+pub(crate) fn serve_input(to: i32, table: &mut [u8], stage: Stage) -> Done
+    requires { ⌜ length (now table) ≡ 24576 ⌝ }
+    requires { ⌜ stage .rows ≤ 256 ⌝ }
+    ensures { λ r. ⌜ r .rows ≤ 256 ⌝ }
+    ensures { λ r. ⌜ ServesInput passwordAt (r .ok) (stageIn (stage .fresh) (stage .rows) (now (table .entry))) (stageIn (r .fresh) (r .rows) (now (table .exit))) ⌝ }
+{
+    let mut line = [0u8; LONGEST];
+    let mut piece = [0u8; PIECE];
+    let mut out = [0u8; OUTPUT];
+    let served = serve_pieces(to, &mut line, table, stage, &mut piece, &mut out);
+    // The pending line may not be whole, so it has no answer.
+    if !served.ok {
+        return Done {
+            ok: false,
+            fresh: served.fresh,
+            rows: served.rows,
+        };
+    }
+    let now = Stage {
+        fresh: served.fresh,
+        rows: served.rows,
+    };
+    let last = finish(&line, served.n, table, now, &mut out);
+    let end = last.end;
+    Done {
         ok: io::write_all(to, &out[0..end]),
-        n: 0,
         fresh: last.fresh,
         rows: last.rows,
     }
+}
+
+// Serves all lines of standard input on a table of the program's own, which the first line makes.
+pub(crate) fn serve_own_table(table: &mut [u8]) -> Done
+    requires { ⌜ length (now table) ≡ 24576 ⌝ }
+    ensures { λ r. ⌜ ServesInput passwordAt (r .ok) start (stageIn (r .fresh) (r .rows) (now (table .exit))) ⌝ }
+{
+    let stage = Stage {
+        fresh: true,
+        rows: 0,
+    };
+    serve_input(STDOUT_FILENO, table, stage)
 }

@@ -5,12 +5,10 @@ mod rows;
 mod serving;
 mod stream;
 
-use file::serve_file;
+use file::serve_argument;
 use input::TABLE;
-use input::serve_input;
+use input::serve_own_table;
 use libc::STDERR_FILENO;
-use libc::STDOUT_FILENO;
-use serving::Stage;
 
 fn main() {
     let count = os::arg_count();
@@ -20,14 +18,10 @@ fn main() {
     }
     let mut table = [0u8; TABLE];
     if count == 2 {
-        serve_file(&mut table);
+        serve_argument(&mut table);
         return;
     }
-    let stage = Stage {
-        fresh: true,
-        rows: 0,
-    };
-    if !serve_input(STDOUT_FILENO, &mut table, stage).ok {
+    if !serve_own_table(&mut table).ok {
         os::fail(b"desk_lines");
     }
 }

@@ -13,6 +13,9 @@ ghost use Rattle.lines.specs.Lines.{last, Held};
 ghost use Rattle.window.specs.PasswordAt.{passwordAt};
 ghost use Rattle.desk_lines.specs.Script.{stageIn, Serves, Follows};
 
+// Above it there may be no room for all rows.
+const FULL: usize = 65536;
+
 // How many bytes of the piece are read, the pending line's length, the stage, and where what was printed ends.
 pub(crate) struct Fed {
     pub(crate) used: usize,
@@ -58,6 +61,46 @@ pub(crate) fn feed(
         fresh: served.fresh,
         rows: served.rows,
         end: served.end,
+    }
+}
+
+// Feeds a piece until it ends, or until the output may have no room for what another line prints.
+pub(crate) fn fill(
+    line: &mut [u8],
+    n: usize,
+    table: &mut [u8],
+    stage: Stage,
+    piece: &[u8],
+    out: &mut [u8],
+) -> Fed
+    requires { ⌜ length (now line) ≡ 4096 ⌝ }
+    requires { ⌜ n ≤ 4097 ⌝ }
+    requires { ⌜ length (now table) ≡ 24576 ⌝ }
+    requires { ⌜ stage .rows ≤ 256 ⌝ }
+    requires { ⌜ length (now out) ≡ 114944 ⌝ }
+    ensures { λ r. ⌜ (r .used ≤ length (now (piece .entry))) × ((1 ≤ length (now (piece .entry)) → 1 ≤ r .used) × ((r .n ≤ 4097) × ((r .rows ≤ 256) × (r .end ≤ 114944)))) ⌝ }
+    ensures { λ r. ⌜ Follows passwordAt (now (line .entry)) n (take (r .used) (now (piece .entry))) (now (line .exit)) (r .n) (stageIn (stage .fresh) (stage .rows) (now (table .entry))) (stageIn (r .fresh) (r .rows) (now (table .exit))) (now (out .entry)) 0 (now (out .exit)) (r .end) ⌝ }
+{
+    let mut pending = n;
+    let mut fresh = stage.fresh;
+    let mut rows = stage.rows;
+    let mut at = 0;
+    let mut end = 0;
+    while (at < piece.len()) & (end <= FULL) {
+        let now = Stage { fresh, rows };
+        let fed = feed(line, pending, table, now, &piece[at..piece.len()], out, end);
+        at += fed.used;
+        pending = fed.n;
+        fresh = fed.fresh;
+        rows = fed.rows;
+        end = fed.end;
+    }
+    Fed {
+        used: at,
+        n: pending,
+        fresh,
+        rows,
+        end,
     }
 }
 

@@ -1,10 +1,11 @@
 -- What the functions on the buffers return.
 use Prim.Native.Nat.{ℕ, _+_, _-_, _≤_, _<_}
-use mathlib.Core.Path.{_≡_, refl, ap, _∙_}
+use mathlib.Core.Path.{_≡_, refl, sym, ap, _∙_}
+use mathlib.Core.Bool.{Bool, true, false, _||_, not}
 use mathlib.Core.List.{List, [], _++_, append-assoc}
 use native.Mathlib.Omega.{arith}
-use borrow.Author.Tests.{ltb-true, ltb-false}
-use lib.Dec.{ltb}
+use borrow.Author.Tests.{ltb-true, ltb-false, eqb-true}
+use lib.Dec.{ltb, eqb}
 use lib.ListN.{length, take, drop, length-append}
 use lib.Seq.{length-take-le, take-at}
 use Rattle.words.specs.ListsLaws.{by-test}
@@ -69,3 +70,13 @@ module _ (line : List ℕ) (n : ℕ) (part : List ℕ) (p : List ℕ) (held : He
         short = λ m. rw (d .front, held .short (omega arith));
         long = λ m. absurd (omega (arith, d .place, size));
       }
+
+-- ---- the end of the input
+
+pub clash : {X : Type 0} {ok : Bool} → ok ≡ false → ok ≡ true → X
+clash f t = let z : false ≡ true = sym f ∙ t in let y : _≡_ {A = ℕ} 0 1 = cc in absurd (omega arith)
+
+-- reading stopped, and nothing had failed
+pub input-over : (ok : Bool) (read : ℕ) → not ok || eqb read 0 ≡ true → ok ≡ true → read ≡ 0
+input-over true read e t = eqb-true read 0 e
+input-over false read e t = clash refl t

@@ -1,6 +1,7 @@
 -- What each function of the code returns, over what the functions that it calls ensure.
 use Prim.Native.Nat.{ℕ, _+_, _-_, _*_, _≤_, _<_}
 use mathlib.Core.Path.{_≡_, refl, sym, ap, _∙_}
+use mathlib.Core.Bool.{Bool, false}
 use mathlib.Core.List.{List, [], _∷_, _++_, flatten, append-assoc, append-nil}
 use native.Mathlib.Numerals.{add-one}
 use native.Mathlib.Omega.{arith}
@@ -12,8 +13,8 @@ use Rattle.password_lines.specs.declared.Printed.{Printed}
 use Rattle.password_lines.specs.LineLaws.{long-line, answer-length}
 use Rattle.lines.specs.Lines.{lineFeed, behind, cut, last, Held, Put}
 use Rattle.lines.specs.LinesLaws.{pieces-do-not-matter, cut-line, cut-rest}
-use Rattle.lines.specs.BufferLaws.{held-nothing, held-none, held-some}
-use Rattle.otp_lines.specs.Stream.{answered, fed, finished, Follows}
+use Rattle.lines.specs.BufferLaws.{held-nothing, held-none, held-some, clash}
+use Rattle.otp_lines.specs.Stream.{answered, fed, finished, Follows, Leaves, Answers}
 use Rattle.otp_lines.specs.StreamLaws.{answered-join}
 
 -- ---- the output
@@ -169,3 +170,20 @@ module _ (line₀ : List ℕ) (n : ℕ) (piece out₀ : List ℕ) where
           pending = λ p h. rw (cut-over p l) (longer (cut p (take at piece) .pending) (feeding .follows .pending p h));
           printed = λ p h. rw (cut-over p l) (feeding .follows .printed p h);
         }
+
+-- ---- the input
+
+-- a piece was fed that stands at the front of what it was read into
+pub next-fed : (line : List ℕ) (n : ℕ) (piece out : List ℕ) (read : ℕ) {after : List ℕ} {m written : ℕ} {text : List ℕ}
+    → length piece ≡ 65536 → length out ≡ 720896 → read ≤ length piece → (m ≤ 257) × (written ≤ length out)
+    → Follows line n (take (read - 0) (drop 0 piece)) after m text
+    → ((read ≤ 65536) × ((m ≤ 257) × (written ≤ 720896))) × Follows line n (take read piece) after m text
+next-fed line n piece out read buffer space l bounds f =
+    let z : read - 0 ≡ read = omega arith in
+    ((omega arith, (bounds .0, omega (arith, bounds .1))), rw z at f)
+
+pub input-stopped : {line : List ℕ} {n : ℕ} {text : List ℕ} {ok : Bool} → ok ≡ false → Leaves line n → Answers ok line n text
+input-stopped f l = record { left = l; printed = clash f }
+
+pub input-ended : {line : List ℕ} {n : ℕ} {text : List ℕ} (ok : Bool) → Leaves line n → ((p : List ℕ) → Held line n p → text ≡ finished p) → Answers ok line n text
+input-ended ok l answer = record { left = l; printed = λ t. answer (cut [] (l .input) .pending) (l .pending) }

@@ -7,7 +7,7 @@ use Rattle.password_lines.specs.Line.{lineAnswer, refusal}
 use Rattle.lines.specs.Lines.{lineFeed, linesOf, cut, last, Held}
 use Rattle.lines.specs.LinesLaws.{pieces-do-not-matter, lines-cut}
 use Rattle.lines.specs.BufferLaws.{held-nothing}
-use Rattle.otp_lines.specs.Stream.{answered, answeredAll, outputOf, fed, finished, Follows}
+use Rattle.otp_lines.specs.Stream.{answered, answeredAll, outputOf, fed, finished, Follows, Leaves}
 
 pub nothing-printed : outputOf [] ≡ []
 unfolding outputOf linesOf flatten
@@ -34,6 +34,10 @@ stream-is-output input = rw (lines-cut input, answered-join (cut [] input .whole
 
 -- ---- what the calls of `feed` and `finish` say together
 
+pub follows-none : (line : List ℕ) (n : ℕ) → Follows line n [] line n []
+unfolding cut flatten
+follows-none line n = record { pending = λ p h. h; printed = λ p h. refl }
+
 pub follows-join : {line a middle b after : List ℕ} {n k m : ℕ} {t u : List ℕ}
     → Follows line n a middle k t → Follows middle k b after m u → Follows line n (a ++ b) after m (t ++ u)
 follows-join {a} {b} f g =
@@ -47,3 +51,17 @@ pub follows-output : {line input after : List ℕ} {m : ℕ} {text last : List �
     → Follows line 0 input after m text → ((p : List ℕ) → Held after m p → last ≡ finished p) → text ++ last ≡ outputOf input
 follows-output {line} {input} f g =
     rw (f .printed [] (held-nothing line), g (cut [] input .pending) (f .pending [] (held-nothing line))) (stream-is-output input)
+
+-- ---- what the loop over the pieces keeps
+
+pub leaves-none : (line : List ℕ) → Leaves line 0
+unfolding cut
+leaves-none line = record { input = []; pending = held-nothing line }
+
+-- a piece behind the input so far
+pub leaves-more : {line piece after : List ℕ} {n m : ℕ} {text : List ℕ} → Leaves line n → Follows line n piece after m text → Leaves after m
+leaves-more {piece = piece} l f =
+    record {
+      input = l .input ++ piece;
+      pending = rw (pieces-do-not-matter [] (l .input) piece) (f .pending (cut [] (l .input) .pending) (l .pending));
+    }
