@@ -8,8 +8,7 @@ use native.Mathlib.Omega.{arith}
 use borrow.Author.Tests.{leb-true, lt-leb, le-leb, not-true}
 use lib.Dec.{eqb, leb}
 use lib.ListN.{length}
-use Rattle.words.specs.Bytes.{leAt, swapBytes}
-use Rattle.words.specs.BytesLaws.{AreBytes}
+use Rattle.words.specs.Bytes.{AreBytes, leAt, swapBytes}
 use Rattle.words.specs.ListsLaws.{and-false}
 use Rattle.words.specs.Tables.{and-left, and-right}
 use Rattle.words.specs.SwapLaws.{swapped-same}

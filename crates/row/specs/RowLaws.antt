@@ -10,8 +10,8 @@ use borrow.Author.Tests.{eqb-true, leb-true, eq-eqb}
 use lib.Dec.{eqb, leb}
 use lib.ListN.{length, getD, take, drop, replicate, length-drop}
 use lib.Seq.{length-take-le, drop-cons, take-add, take-at, drop-at, drop-drop, drop-append-seam, getD-drop}
-use Rattle.words.specs.Bytes.{beAt, beBytes}
-use Rattle.words.specs.BytesLaws.{AreBytes, length-beBytes, beAt-agree, beAt-beBytes, beBytes-beAt}
+use Rattle.words.specs.Bytes.{AreBytes, beAt, beBytes}
+use Rattle.words.specs.BytesLaws.{length-beBytes, beAt-agree, beAt-beBytes, beBytes-beAt}
 use Rattle.words.specs.Lists.{allZero}
 use Rattle.words.specs.ListsLaws.{by-test}
 use Rattle.words.specs.Tables.{and-left, and-right}

@@ -7,8 +7,8 @@ use native.Mathlib.Nat.{zero-add, not-suc-le-zero}
 use native.Mathlib.Omega.{arith}
 use lib.ListN.{length, set, take, drop, length-set, length-append, length-drop, take-append-drop}
 use lib.Seq.{length-take-le, drop-drop}
-use Rattle.words.specs.Bytes.{beBytes, putBe}
-use Rattle.words.specs.BytesLaws.{AreBytes, length-putBe, set-behind, putBe-behind}
+use Rattle.words.specs.Bytes.{AreBytes, beBytes, putBe}
+use Rattle.words.specs.BytesLaws.{length-putBe, set-behind, putBe-behind}
 use Rattle.words.specs.ListsLaws.{by-test}
 use Rattle.row.specs.declared.Row.{Row}
 use Rattle.row.specs.declared.reading.Place.the-variants.{At, Nowhere}
