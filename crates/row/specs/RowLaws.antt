@@ -7,7 +7,7 @@ use mathlib.Core.List.{List, [], _∷_, _++_, append-assoc}
 use native.Mathlib.Nat.{add-zero, add-suc, zero-add}
 use native.Mathlib.Omega.{arith}
 use borrow.Author.Tests.{eqb-true, leb-true, eq-eqb}
-use lib.Dec.{eqb, leb}
+use lib.Dec.{eqb, leb, ltb}
 use lib.ListN.{length, getD, take, drop, replicate, length-drop}
 use lib.Seq.{length-take-le, drop-cons, take-add, take-at, drop-at, drop-drop, drop-append-seam, getD-drop}
 use Rattle.words.specs.Bytes.{AreBytes, beAt, beBytes}
@@ -228,6 +228,11 @@ module _ (r : Row) (ok : numbersOk r ≡ true) where
       let t = passed 8 in
       by-test (isTime r) (λ p. leb-true (r .track .offset .0) (2 * farthest) (rw p at t))
       (λ p. let e = eqb-true (r .track .offset .0) farthest (rw p at t) in omega arith)
+
+  -- `locked at` is 0 unless the state is 3
+  pub unlocked-elsewhere : eqb (r .state) 3 || eqb (r .locked .0) 0 ≡ true
+  unfolding numberTests
+  unlocked-elsewhere = and-right (ltb (r .locked .0) (2 ^ 40)) (eqb (r .state) 3 || eqb (r .locked .0) 0) (passed 11)
 
   -- what a check asks of the row's track
   pub row-sound : (clock : ℕ) → clock < 2 ^ 40 → Sound (r .track) clock
