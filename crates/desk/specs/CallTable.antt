@@ -21,7 +21,8 @@ use Rattle.token.specs.OnTable.{servedAt, queriedAt}
 use Rattle.desk.specs.declared.Particulars.{Particulars}
 use Rattle.desk.specs.Requests.{Request, DeskCall, tableOk, passwordOk, challengeGiven, requestOk, loadOk}
 use Rattle.desk.specs.Desk.{requestedAt, deskAfter}
-use Rattle.desk.specs.CallLines.{rowWith, sixRows, Change, state, errors, next, offset, lockedAt, lastUse, zeroKey, Cell, cell, no, Line, line, allHold}
+use Rattle.desk.specs.Demand1Bytes.{Change, state, errors, zeroKey, next, offset, lockedAt, lastUse}
+use Rattle.desk.specs.CallLines.{rowWith, sixRows, Cell, cell, no, Line, line, allHold}
 
 -- ---- accepted: before the wait has run out (clock 1059)
 
