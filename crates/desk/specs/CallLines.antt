@@ -5,7 +5,7 @@ use mathlib.Core.Bool.{Bool, true, false, _&&_}
 use mathlib.Core.List.{List, [], _∷_, _++_}
 use lib.Dec.{eqb}
 use lib.ListN.{length, replicate}
-use Rattle.words.specs.Bytes.{beBytes, put}
+use Rattle.words.specs.Bytes.{beBytes}
 use Rattle.words.specs.Lists.{sameBytes}
 use Rattle.otp.specs.Password.{decimals}
 use Rattle.window.specs.PasswordAt.{PasswordRule}
@@ -15,8 +15,9 @@ use Rattle.token.specs.Codes.Signed.{plus, minus}
 use Rattle.token.specs.OnTable.{Result}
 use Rattle.desk.specs.Requests.{Request, DeskCall}
 use Rattle.desk.specs.Desk.{deskAfter}
+use Rattle.desk.specs.Demand1Bytes.{Change, laid}
 
--- ---- a row, and what a call changes of it
+-- ---- rows
 
 -- a token by its kind, period, state, errors, first unused step and `locked at`: SM3, six digits, limit 3, serial 9, d 0, wait 60, expiry 5000, last use 500
 abbrev pub rowBy : ℕ → ℕ → ℕ → ℕ → ℕ → ℕ → List ℕ
@@ -35,40 +36,6 @@ rowWith state errors next locked = rowBy 0 60 state errors next locked
 -- the rows in states 1 to 6, with two errors and first unused step 17, which is T at the clocks 1059 and 1060; the lock by errors was at 1000
 abbrev pub sixRows : List (List ℕ)
 sixRows = rowWith 1 2 17 0 ∷ rowWith 2 2 17 0 ∷ rowWith 3 2 17 1000 ∷ rowWith 4 2 17 0 ∷ rowWith 5 2 17 0 ∷ rowWith 6 2 17 0 ∷ []
-
--- bytes that stand at an offset of the row afterwards
-pub record Change : Type 0 where
-  pub offset : ℕ
-  pub bytes : List ℕ
-
-abbrev pub change : ℕ → List ℕ → Change
-change offset bytes = record { offset = offset; bytes = bytes }
-
-abbrev pub state : ℕ → Change
-state x = change 0 (x ∷ [])
-
-abbrev pub errors : ℕ → Change
-errors x = change 6 (x ∷ [])
-
-abbrev pub next : ℕ → Change
-next x = change 48 (beBytes 8 x)
-
--- d + 600
-abbrev pub offset : ℕ → Change
-offset x = change 56 (beBytes 2 x)
-
-abbrev pub lockedAt : ℕ → Change
-lockedAt x = change 72 (beBytes 8 x)
-
-abbrev pub lastUse : ℕ → Change
-lastUse x = change 80 (beBytes 8 x)
-
-abbrev pub zeroKey : Change
-zeroKey = change 16 (replicate 32 0)
-
-abbrev pub changed : List ℕ → List Change → List ℕ
-changed s [] = s
-changed s (c ∷ cs) = changed (put s (c .offset) (c .bytes)) cs
 
 -- ---- a line: a call, and what it answers, carries and changes in each of some rows
 
@@ -110,7 +77,7 @@ sameValues (x ∷ a) [] = false
 sameValues (x ∷ a) (y ∷ b) = sameSigned x y && sameValues a b
 
 abbrev pub cellHolds : Result → List ℕ → Cell → Bool
-cellHolds x s c = (eqb (numberOf (x .answer)) (c .code) && sameValues (carried (x .answer)) (c .values)) && sameBytes (x .table) (changed s (c .changes))
+cellHolds x s c = (eqb (numberOf (x .answer)) (c .code) && sameValues (carried (x .answer)) (c .values)) && sameBytes (x .table) (laid s 0 (c .changes))
 
 -- the row is all of the table
 abbrev pub cellsHold : DeskCall → List (List ℕ) → List Cell → Bool

@@ -20,7 +20,8 @@ use Rattle.token.specs.Serving.{serving, served, querying}
 use Rattle.token.specs.OnTable.{servedAt, queriedAt}
 use Rattle.desk.specs.Requests.{Request, DeskCall, tableOk, passwordOk, challengeGiven, requestOk, loadOk}
 use Rattle.desk.specs.Desk.{requestedAt, deskAfter}
-use Rattle.desk.specs.CallLines.{rowWith, sixRows, Change, changed, state, errors, next, offset, lockedAt, lastUse, zeroKey, Cell, cell, no, Line, line, allHold}
+use Rattle.desk.specs.Demand1Bytes.{Change, laid, state, errors, zeroKey, next, offset, lockedAt, lastUse}
+use Rattle.desk.specs.CallLines.{rowWith, sixRows, Cell, cell, no, Line, line, allHold}
 
 -- ---- accepted: before the wait has run out (clock 1059)
 
@@ -225,7 +226,7 @@ loadLines =
 
 -- a row that is not well formed: its limit is 0
 abbrev pub damaged : List ℕ
-damaged = changed (rowWith 2 2 17 0) (record { offset = 5; bytes = 0 ∷ [] } ∷ [])
+damaged = laid (rowWith 2 2 17 0) 0 (record { offset = 5; bytes = 0 ∷ [] } ∷ [])
 
 -- an empty row that has the serial
 abbrev pub emptied : List ℕ

@@ -188,7 +188,7 @@ requested-fits passwords request clock s at h = by-request request
 abbrev Meets : DeskCall → List ℕ → Result → Type 0
 Meets call s x = (oneOf (numberOf (x .answer)) (codesOf call) ≡ true) × (x .table ≡ bytesFor call s (x .answer))
 
-unchanged-anywhere : (s : List ℕ) (place : Place) → s ≡ atPlace s place (λ at. s)
+pub unchanged-anywhere : (s : List ℕ) (place : Place) → s ≡ atPlace s place (λ at. s)
 unchanged-anywhere s (Place.At at) = refl
 unchanged-anywhere s Place.Nowhere = refl
 

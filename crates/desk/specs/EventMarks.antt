@@ -27,7 +27,8 @@ use Rattle.token.specs.Serving.{serving, served}
 use Rattle.token.specs.OnTable.{servedAt}
 use Rattle.desk.specs.Requests.{Request, DeskCall, tableOk, passwordOk, requestOk}
 use Rattle.desk.specs.Desk.{requestedAt, deskAfter}
-use Rattle.desk.specs.CallLines.{rowBy, state, errors, next, lastUse, cell, bySteps, cellHolds}
+use Rattle.desk.specs.Demand1Bytes.{state, errors, next, lastUse}
+use Rattle.desk.specs.CallLines.{rowBy, cell, bySteps, cellHolds}
 
 -- step s of the token has this password
 abbrev has : ℕ → ℕ → Bool

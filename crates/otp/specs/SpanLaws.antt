@@ -10,8 +10,8 @@ use lib.Dec.{eqb, ltb}
 use lib.ListN.{length, getD, set, replicate, length-set, length-append, length-replicate, List·getD-append, List·getD-eq-default}
 use lib.Pow.{shr-lt}
 use lib.Seq.{getD-set-same, getD-set-other}
-use Rattle.words.specs.Bytes.{beAt, beBytes}
-use Rattle.words.specs.BytesLaws.{AreBytes, beAt-lt, beAt-split, beAt-beBytes, length-beBytes}
+use Rattle.words.specs.Bytes.{AreBytes, beAt, beBytes}
+use Rattle.words.specs.BytesLaws.{beAt-lt, beAt-split, beAt-beBytes, length-beBytes}
 use Rattle.words.specs.ListsLaws.{by-test}
 use Rattle.words.specs.SumLaws.{zero-get, bytes-zeros, beAt-zeros}
 use Rattle.words.specs.SwapLaws.{bytes-append, bytes-beBytes}

@@ -6,8 +6,8 @@ use mathlib.Core.List.{List, [], _∷_, _++_, append-assoc, append-nil}
 use native.Mathlib.Nat.{zero-add, add-zero, add-comm, mod-eq-of-lt}
 use native.Mathlib.Omega.{arith}
 use lib.ListN.{length, getD, take, drop, replicate, length-append, length-replicate, replicate-append-replicate}
-use Rattle.words.specs.Bytes.{beAt, beBytes, put}
-use Rattle.words.specs.BytesLaws.{AreBytes, length-beBytes, beBytes-split, beBytes-mod, beAt-lt}
+use Rattle.words.specs.Bytes.{AreBytes, beAt, beBytes, put}
+use Rattle.words.specs.BytesLaws.{length-beBytes, beBytes-split, beBytes-mod, beAt-lt}
 use Rattle.words.specs.PutLaws.{put-nothing}
 use Rattle.words.specs.SumLaws.{bytes-zeros, over-zeros, beAt-sum}
 use Rattle.words.specs.SwapLaws.{bytes-append, bytes-beBytes}

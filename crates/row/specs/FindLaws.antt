@@ -8,10 +8,9 @@ use native.Mathlib.Omega.{arith}
 use borrow.Author.Tests.{leb-true, lt-leb, le-leb, not-true}
 use lib.Dec.{eqb, leb}
 use lib.ListN.{length}
-use Rattle.words.specs.Bytes.{leAt, swapBytes}
-use Rattle.words.specs.BytesLaws.{AreBytes}
+use Rattle.words.specs.Bytes.{AreBytes, leAt, swapBytes}
 use Rattle.words.specs.ListsLaws.{and-false}
-use Rattle.words.specs.Tables.{and-left, and-right}
+use Rattle.words.specs.Tables.{and-left, and-right, or-left, or-right}
 use Rattle.words.specs.SwapLaws.{swapped-same}
 use Rattle.row.specs.declared.reading.Place.{Place}
 use Rattle.row.specs.declared.reading.Place.the-variants.{At, Nowhere}
@@ -53,14 +52,6 @@ module _ (test : ℕ → Bool) (at : ℕ) where
   first-fails (suc left) n t = let e : suc left - 1 ≡ left = omega arith in rw (t, e)
 
 -- ---- rows passed over by fours
-
-or-left : (a b : Bool) → a || b ≡ false → a ≡ false
-or-left true b t = t
-or-left false b t = refl
-
-or-right : (a b : Bool) → a || b ≡ false → b ≡ false
-or-right true b t = cc
-or-right false b t = t
 
 module _ (s : List ℕ) (wanted at : ℕ) where
   pub few-left : length s < at + 384 → false ≡ fourLack s wanted at

@@ -8,8 +8,7 @@ use borrow.Author.Tests.{not-true, not-false}
 use lib.Dec.{eqb}
 use lib.ListN.{length, getD, take, drop, length-drop}
 use lib.Seq.{length-take-le, take-add, drop-at, drop-drop}
-use Rattle.words.specs.Bytes.{beAt, leAt, swapBytes}
-use Rattle.words.specs.BytesLaws.{AreBytes}
+use Rattle.words.specs.Bytes.{AreBytes, beAt, leAt, swapBytes}
 use Rattle.words.specs.Lists.{allZero}
 use Rattle.words.specs.ListsLaws.{and-true, and-assoc}
 use Rattle.words.specs.SwapLaws.{swapped-same, zero-number}

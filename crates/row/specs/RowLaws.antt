@@ -7,11 +7,11 @@ use mathlib.Core.List.{List, [], _∷_, _++_, append-assoc}
 use native.Mathlib.Nat.{add-zero, add-suc, zero-add}
 use native.Mathlib.Omega.{arith}
 use borrow.Author.Tests.{eqb-true, leb-true, eq-eqb}
-use lib.Dec.{eqb, leb}
+use lib.Dec.{eqb, leb, ltb}
 use lib.ListN.{length, getD, take, drop, replicate, length-drop}
 use lib.Seq.{length-take-le, drop-cons, take-add, take-at, drop-at, drop-drop, drop-append-seam, getD-drop}
-use Rattle.words.specs.Bytes.{beAt, beBytes}
-use Rattle.words.specs.BytesLaws.{AreBytes, length-beBytes, beAt-agree, beAt-beBytes, beBytes-beAt}
+use Rattle.words.specs.Bytes.{AreBytes, beAt, beBytes}
+use Rattle.words.specs.BytesLaws.{length-beBytes, beAt-agree, beAt-beBytes, beBytes-beAt}
 use Rattle.words.specs.Lists.{allZero}
 use Rattle.words.specs.ListsLaws.{by-test}
 use Rattle.words.specs.Tables.{and-left, and-right}
@@ -238,6 +238,11 @@ module _ (r : Row) (ok : numbersOk r ≡ true) where
   pub length-in-range : (16 ≤ r .length) × (r .length ≤ 32)
   unfolding numberTests
   length-in-range = within 16 (r .length) 32 (passed 6)
+
+  -- `locked at` is 0 unless the state is 3
+  pub unlocked-elsewhere : eqb (r .state) 3 || eqb (r .locked .0) 0 ≡ true
+  unfolding numberTests
+  unlocked-elsewhere = and-right (ltb (r .locked .0) (2 ^ 40)) (eqb (r .state) 3 || eqb (r .locked .0) 0) (passed 11)
 
   -- what a check asks of the row's track
   pub row-sound : (clock : ℕ) → clock < 2 ^ 40 → Sound (r .track) clock

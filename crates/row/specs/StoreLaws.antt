@@ -6,10 +6,10 @@ use native.Mathlib.Nat.{add-zero}
 use native.Mathlib.Numerals.{add-one}
 use native.Mathlib.Omega.{arith}
 use lib.ListN.{length, set, getD, take, drop, replicate, length-set, length-append, length-drop, length-replicate, replicate-append-replicate, drop-of-length-le}
-use lib.Seq.{length-take-le, drop-cons, drop-drop, set-at, set-split, append-snoc}
+use lib.Seq.{length-take-le, drop-cons, drop-drop, set-at, append-snoc}
 use Rattle.words.specs.Bytes.{beBytes, put, putBe}
 use Rattle.words.specs.BytesLaws.{putBe-put}
-use Rattle.words.specs.PutLaws.{put-nothing, put-length, put-on, put-part}
+use Rattle.words.specs.PutLaws.{put-nothing, put-length, put-on, put-part, set-put}
 use Rattle.row.specs.declared.Row.{Row}
 use Rattle.row.specs.Row.{firstBytes, beforeKey, stepBytes, timeBytes, render}
 use Rattle.row.specs.Table.{stepsStored, readingsStored, wipeKey, zeroFilled, writeRow}
@@ -25,6 +25,9 @@ length-stepBytes r = refl
 pub length-timeBytes : (r : Row) → length (timeBytes r) ≡ 36
 unfolding timeBytes beBytes
 length-timeBytes r = refl
+
+pub length-zeroFilled : (key : List ℕ) → length key ≤ 32 → length (zeroFilled key) ≡ 32
+length-zeroFilled key h = rw (length-append, length-replicate {A = ℕ} (32 - length key) 0) (omega arith)
 
 -- ---- zeros over a part
 
@@ -45,9 +48,6 @@ cleared s at n end e h p =
     rw (p, m, l, length-replicate {A = ℕ} n 0, drop-drop n at s)
 
 -- ---- parts put one behind the other
-
-set-put : (s : List ℕ) (at x : ℕ) → at < length s → set s at x ≡ put s at (x ∷ [])
-set-put s at x h = set-split s at x h ∙ rw (add-one at)
 
 -- the elements vs stored one by one from at + i on
 abbrev setsFrom : ℕ → List ℕ → ℕ → List ℕ → List ℕ
@@ -134,8 +134,7 @@ module _ (s : List ℕ) (at : ℕ) (room : at + 96 ≤ length s) where
   unfolding writeRow render
   row-written r key {s₁} {s₂} {s₃} {s₄} h p₁ e₂ e₃ e₄ =
       let front = beforeKey r ++ zeroFilled key in
-      let k : length (zeroFilled key) ≡ 32 = rw (length-append, length-replicate {A = ℕ} (32 - length key) 0) (omega arith) in
-      let f : length front ≡ 48 = rw (length-append, length-beforeKey r, k) in
+      let f : length front ≡ 48 = rw (length-append, length-beforeKey r, length-zeroFilled key h) in
       let g : length (front ++ stepBytes r) ≡ 60 = rw (length-append, f, length-stepBytes r) in
       let n : length ((front ++ stepBytes r) ++ timeBytes r) ≡ 96 = rw (length-append, g, length-timeBytes r) in
       let p₂ = behind s s₁ at (at + 16) (beforeKey r) 16 p₁ (length-beforeKey r) refl (zeroFilled key) e₂ (omega arith) in

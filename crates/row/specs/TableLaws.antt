@@ -6,9 +6,9 @@ use mathlib.Core.List.{List, _++_, append-assoc}
 use native.Mathlib.Nat.{zero-add, not-suc-le-zero}
 use native.Mathlib.Omega.{arith}
 use lib.ListN.{length, set, take, drop, length-set, length-append, length-drop, take-append-drop}
-use lib.Seq.{length-take-le, drop-drop}
-use Rattle.words.specs.Bytes.{beBytes, putBe}
-use Rattle.words.specs.BytesLaws.{AreBytes, length-putBe, set-behind, putBe-behind}
+use lib.Seq.{length-take-le, drop-drop, set-getD}
+use Rattle.words.specs.Bytes.{AreBytes, beBytes, putBe}
+use Rattle.words.specs.BytesLaws.{length-putBe, set-behind, putBe-behind, putBe-beAt}
 use Rattle.words.specs.ListsLaws.{by-test}
 use Rattle.row.specs.declared.Row.{Row}
 use Rattle.row.specs.declared.reading.Place.the-variants.{At, Nowhere}
@@ -108,6 +108,19 @@ length-store s at r = simp (length-putBe, length-set)
 pub length-render : (r : Row) (key : List ℕ) → length key ≡ 32 → length (render r key) ≡ rowBytes
 unfolding render
 length-render r key l = rw (length-append, length-beforeKey r, length-append, l, length-append, length-stepBytes r, length-timeBytes r)
+
+-- the row as it stands, stored, changes nothing
+pub store-same : (s : List ℕ) (at : ℕ) → AreBytes s → storeRow s at (rowAt s at) ≡ s
+unfolding storeRow rowAt
+store-same s at bytes =
+    rw (
+      set-getD s (at + 0) 0,
+      set-getD s (at + 6) 0,
+      putBe-beAt 8 s (at + 48) bytes,
+      putBe-beAt 2 s (at + 56) bytes,
+      putBe-beAt 8 s (at + 72) bytes,
+      putBe-beAt 8 s (at + 80) bytes,
+    )
 
 -- what load gives and no other call changes
 pub record SameParticulars (r q : Row) : Type 0 where

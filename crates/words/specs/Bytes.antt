@@ -1,7 +1,11 @@
 -- Numbers in bytes at any width: the highest byte first ("stored numbers big-endian", document 01), and the lowest first, as a search may compare them.
-use Prim.Native.Nat.{ℕ, zero, suc, _+_, _*_, _/_, _%_, _^_}
+use Prim.Native.Nat.{ℕ, zero, suc, _+_, _*_, _/_, _%_, _^_, _<_}
 use mathlib.Core.List.{List, [], _∷_, _++_}
 use lib.ListN.{length, getD, set, take, drop}
+
+-- every element is a byte, as a slice's type says of it
+abbrev pub AreBytes : List ℕ → Type 0
+AreBytes s = (i : ℕ) → getD s i 0 < 256
 
 -- the number in the k bytes of s from at on
 unfoldable pub beAt : ℕ → List ℕ → ℕ → ℕ

@@ -9,11 +9,7 @@ use native.Mathlib.Omega.{arith}
 use lib.Arith.{digits-lt, mod-mul}
 use lib.ListN.{length, getD, set, take, drop, replicate, length-set, length-append, length-replicate, take-append-drop}
 use lib.Seq.{length-take-le, take-set-le, drop-set-lt, getD-set-same, getD-set-other, set-getD, drop-cons, take-at, drop-at, drop-drop}
-use Rattle.words.specs.Bytes.{beAt, beBytes, put, putBe}
-
--- every element is a byte
-abbrev pub AreBytes : List ℕ → Type 0
-AreBytes s = (i : ℕ) → getD s i 0 < 256
+use Rattle.words.specs.Bytes.{AreBytes, beAt, beBytes, put, putBe}
 
 pub beAt-lt : (k : ℕ) (s : List ℕ) (at : ℕ) → AreBytes s → beAt k s at < 256 ^ k
 unfolding beAt

@@ -5,8 +5,7 @@ use mathlib.Core.List.{List, [], _∷_, _++_}
 use native.Mathlib.Nat.{add-zero, zero-add, le-trans, le-suc, zero-lt-suc}
 use native.Mathlib.Omega.{arith}
 use lib.ListN.{length, getD, replicate}
-use Rattle.words.specs.Bytes.{beAt}
-use Rattle.words.specs.BytesLaws.{AreBytes}
+use Rattle.words.specs.Bytes.{AreBytes, beAt}
 
 -- a list of zeros has no other element, past its end too
 pub zero-get : (n i : ℕ) → getD {A = ℕ} (replicate n 0) i 0 ≡ 0

@@ -10,8 +10,8 @@ use borrow.Author.Tests.{ltb-false, eqb-true, eqb-false, eq-eqb, ne-eqb}
 use lib.Dec.{eqb, ltb}
 use lib.ListN.{length, getD, take, drop, length-drop, take-append-drop}
 use lib.Seq.{drop-cons, take-add, drop-drop, take-length}
-use Rattle.words.specs.Bytes.{beAt, leAt, swapBytes, beBytes}
-use Rattle.words.specs.BytesLaws.{AreBytes, beAt-split, beAt-beBytes}
+use Rattle.words.specs.Bytes.{AreBytes, beAt, leAt, swapBytes, beBytes}
+use Rattle.words.specs.BytesLaws.{beAt-split, beAt-beBytes}
 use Rattle.words.specs.Lists.{allZero}
 use Rattle.words.specs.ListsLaws.{and-assoc, by-test}
 

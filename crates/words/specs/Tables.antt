@@ -1,7 +1,7 @@
 -- A table's rule, shown at all of its entries by one test that is computed over the table.
 use Prim.Native.Nat.{ℕ, zero, suc, _+_, _<_}
-use mathlib.Core.Path.{_≡_, subst, sym, _∙_}
-use mathlib.Core.Bool.{Bool, true, false, _&&_}
+use mathlib.Core.Path.{_≡_, refl, subst, sym, _∙_}
+use mathlib.Core.Bool.{Bool, true, false, _&&_, _||_}
 use mathlib.Core.List.{List, [], _∷_}
 use native.Mathlib.Nat.{add-zero, zero-add, add-suc, suc-add, le-of-suc-le-suc, not-suc-le-zero}
 use lib.ListN.{length, getD}
@@ -18,6 +18,14 @@ and-left false b t = cc
 pub and-right : (a b : Bool) → a && b ≡ true → b ≡ true
 and-right true b t = t
 and-right false b t = cc
+
+pub or-left : (a b : Bool) → a || b ≡ false → a ≡ false
+or-left true b t = t
+or-left false b t = refl
+
+pub or-right : (a b : Bool) → a || b ≡ false → b ≡ false
+or-right true b t = cc
+or-right false b t = t
 
 from : (test : ℕ → ℕ → Bool) (xs : List ℕ) (i : ℕ) → every test i xs ≡ true → (k : ℕ) → k < length xs → test (i + k) (getD xs k 0) ≡ true
 from test [] i t k h = absurd (not-suc-le-zero h)
