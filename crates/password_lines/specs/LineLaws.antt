@@ -335,7 +335,7 @@ module _ (line : List ℕ) (long : 256 < length line) (six : length (fieldsOf li
       let digits = decimal-length (fieldOf line 5) 2 j (lit< tt) (omega arith) in
       omega arith
 
--- a line that is not refused has at most 134 bytes, so one that is longer than a reader keeps is refused
+-- a line of over 256 bytes, more than a reader keeps, is refused: the fields of one that is not have room in 134
 pub long-line : (line : List ℕ) → 256 < length line → lineAnswer line ≡ refusal
 unfolding lineAnswer
 long-line line h =
