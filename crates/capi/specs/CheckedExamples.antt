@@ -1,14 +1,16 @@
--- The arguments of dl_check at the ends of their ranges (document 01, Parts 2 to 4) and one past them.
+-- The arguments of dl_check at the ends of their ranges (document 01, Parts 2 to 4) and one past them, and the codes of its outcomes.
 use Prim.Native.Nat.{ℕ, _+_, _-_, _^_}
 use mathlib.Core.Path.{_≡_, refl}
 use mathlib.Core.Bool.{Bool, true, false}
-use mathlib.Core.List.{List, [], _∷_}
+use mathlib.Core.List.{List, [], _∷_, map}
 use lib.ListN.{replicate}
 use Rattle.words.specs.Lists.{allWithin}
+use Rattle.window.specs.declared.Outcome.{Outcome}
+use Rattle.window.specs.declared.Outcome.the-variants.{Accepted, Used, Wrong}
 use Rattle.otp.specs.Password.{challengeOk, argumentsOk}
 use Rattle.row.specs.Row.{trackOk}
 use Rattle.desk.specs.Requests.{passwordOk}
-use Rattle.capi.specs.Checked.{trackOf, passwordsOk, checkArgumentsOk}
+use Rattle.capi.specs.Checked.{trackOf, passwordsOk, checkArgumentsOk, outcomeLeft}
 
 -- n bytes of one value: 0x30 to 0x39 are digits
 abbrev some : ℕ → ℕ → List ℕ
@@ -85,3 +87,13 @@ examples-taken = refl
 pub examples-refused : refused ≡ replicate 31 false
 unfolding argumentsOk challengeOk allWithin passwordOk trackOk passwordsOk checkArgumentsOk
 examples-refused = refl
+
+-- ---- the outcomes
+
+abbrev outcomes : List Outcome
+outcomes = Accepted (record { 0 = 5 }) ∷ Used ∷ Wrong ∷ []
+
+-- an accepted step goes to the first element; used and wrong leave the output
+pub outcomes-coded : map (λ o. outcomeLeft o (7 ∷ 8 ∷ [])) outcomes
+    ≡ record { code = 0; out = 5 ∷ 8 ∷ [] } ∷ record { code = 0x8004; out = 7 ∷ 8 ∷ [] } ∷ record { code = 0x8002; out = 7 ∷ 8 ∷ [] } ∷ []
+outcomes-coded = refl

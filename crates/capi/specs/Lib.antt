@@ -5,3 +5,4 @@ pub mod CheckedLaws
 pub mod CheckedExamples
 pub mod DeskLeft
 pub mod DeskLeftLaws
+pub mod DeskLeftExamples
