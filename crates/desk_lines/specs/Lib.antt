@@ -1,8 +1,4 @@
--- What the program desk_lines prints, and that it is what the ledger machine answers (docs/DESK-LINES.md).
-pub mod Script
-pub mod ScriptLaws
-pub mod RowsLaws
-pub mod ReturnLaws
+-- What the program desk_lines does with its input, piece by piece.
+pub mod Input
+pub mod AdvanceLaws
 pub mod InputLaws
-pub mod LedgerScript
-pub mod LedgerScriptLaws

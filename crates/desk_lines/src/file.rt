@@ -2,18 +2,19 @@
 // and no answer is printed whose table is not on disk.
 use crate::input::Done;
 use crate::input::serve_input;
-use crate::serving::Stage;
 use libc::PATH_MAX;
 use libc::SEEK_SET;
 use libc::STDOUT_FILENO;
 use lines::put;
 use row::ROW_BYTES;
+use script::serving::Stage;
 ghost use mathlib.Core.Path.{_≡_};
 ghost use mathlib.Core.Bool.{false};
 ghost use Prim.Native.Nat.{_+_, _≤_};
 ghost use lib.ListN.{length};
 ghost use Rattle.window.specs.PasswordAt.{passwordAt};
-ghost use Rattle.desk_lines.specs.Script.{stageIn, ServesInput};
+ghost use Rattle.script.specs.Script.{stageIn};
+ghost use Rattle.desk_lines.specs.Input.{ServesInput};
 
 // A path, and behind it the letters that make it the name of a new file.
 const NAME: usize = PATH_MAX + 7;

@@ -1,16 +1,17 @@
 // The whole input: read in pieces, and what its lines print written out.
-use crate::serving::LONGEST;
-use crate::serving::Stage;
-use crate::stream::fill;
-use crate::stream::finish;
 use libc::STDIN_FILENO;
 use libc::STDOUT_FILENO;
+use script::serving::LONGEST;
+use script::serving::Stage;
+use script::stream::fill;
+use script::stream::finish;
 ghost use mathlib.Core.Path.{_≡_};
 ghost use mathlib.Core.Bool.{true};
 ghost use Prim.Native.Nat.{_≤_};
 ghost use lib.ListN.{length, take};
 ghost use Rattle.window.specs.PasswordAt.{passwordAt};
-ghost use Rattle.desk_lines.specs.Script.{start, stageIn, Bounds, Advances, Leaves, ServesInput};
+ghost use Rattle.script.specs.Script.{start, stageIn};
+ghost use Rattle.desk_lines.specs.Input.{Bounds, Advances, Leaves, ServesInput};
 
 // 256 rows.
 pub(crate) const TABLE: usize = 24576;

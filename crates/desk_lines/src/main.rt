@@ -1,9 +1,6 @@
 // Reads calls from standard input, a line each, makes them on one table and prints the answers (docs/DESK-LINES.md).
 mod file;
 mod input;
-mod rows;
-mod serving;
-mod stream;
 
 use file::serve_argument;
 use input::TABLE;

@@ -2,8 +2,8 @@ use mathlib.Core.Bool.{false}
 use mathlib.Core.Path.{_∙_}
 use borrow.Author.Needs.{needs}
 use Rattle.window.specs.PasswordAt.{passwordAt}
-use Rattle.desk_lines.specs.Script.{stageIn}
-use Rattle.desk_lines.specs.ScriptLaws.{advances-none}
+use Rattle.script.specs.Script.{stageIn}
+use Rattle.desk_lines.specs.AdvanceLaws.{advances-none}
 use Rattle.desk_lines.specs.InputLaws.{none-served, next-served}
 use Rattle.desk_lines.proofs.input.serve_next.Statement.{statement}
 use Rattle.desk_lines.proofs.input.serve_next.Tie as tie

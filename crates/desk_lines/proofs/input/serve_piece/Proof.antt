@@ -4,8 +4,9 @@ use lib.ListN.{length}
 use native.Mathlib.Omega.{arith}
 use borrow.Author.Needs.{needs}
 use Rattle.window.specs.PasswordAt.{passwordAt}
-use Rattle.desk_lines.specs.Script.{stageIn}
-use Rattle.desk_lines.specs.InputLaws.{Serving, serving-begin, serving-more, piece-stopped, piece-done, piece-left}
+use Rattle.script.specs.Script.{stageIn}
+use Rattle.script.specs.FillLaws.{piece-left}
+use Rattle.desk_lines.specs.InputLaws.{Serving, serving-begin, serving-more, piece-stopped, piece-done}
 use Rattle.desk_lines.proofs.input.serve_piece.Statement.{statement}
 use Rattle.desk_lines.proofs.input.serve_piece.Tie as tie
 

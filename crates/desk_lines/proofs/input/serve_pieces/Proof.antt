@@ -3,8 +3,8 @@ use native.Mathlib.Omega.{arith}
 use borrow.Author.Needs.{needs}
 use Rattle.lines.specs.BufferLaws.{clash, input-over}
 use Rattle.window.specs.PasswordAt.{passwordAt}
-use Rattle.desk_lines.specs.Script.{stageIn}
-use Rattle.desk_lines.specs.ScriptLaws.{leaves-more}
+use Rattle.script.specs.Script.{stageIn}
+use Rattle.desk_lines.specs.AdvanceLaws.{leaves-more}
 use Rattle.desk_lines.specs.InputLaws.{Reading, reading-begin, reading-more}
 use Rattle.desk_lines.proofs.input.serve_pieces.Statement.{statement}
 use Rattle.desk_lines.proofs.input.serve_pieces.Tie as tie
