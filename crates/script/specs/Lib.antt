@@ -6,3 +6,4 @@ pub mod ReturnLaws
 pub mod FillLaws
 pub mod LedgerScript
 pub mod LedgerScriptLaws
+pub mod ScriptExamples
