@@ -1,5 +1,5 @@
 -- What the desk's C functions give of an answer, computed: the number, and d with its sign in two's complement before values that stay.
-use Prim.Native.Nat.{ℕ, _-_, _^_}
+use Prim.Native.Nat.{_-_, _^_}
 use mathlib.Core.Path.{_≡_, refl}
 use mathlib.Core.List.{[], _∷_}
 use Rattle.token.specs.declared.calls.Call.{Call}
