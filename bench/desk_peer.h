@@ -237,7 +237,10 @@ static inline uint16_t peer_serve(struct peer_row *row, const struct desk_call *
     return found == DL_USED ? desk_used_code(call->name) : desk_wrong_code(call->name);
 }
 
-// ---- the calls; compiled apart from their caller, as a library's are
+// ---- the calls; compiled apart from their caller, as a library's are. Each begins a page: where it lies beside OpenSSL's functions decides a tenth of
+// its time, which would else move with every header that is included here.
+
+#define PEER_CALL __attribute__((noipa, aligned(4096))) static uint16_t
 
 static inline int peer_lent_ok(const struct desk_call *call)
 {
@@ -246,7 +249,7 @@ static inline int peer_lent_ok(const struct desk_call *call)
 }
 
 // A login, an activate or a sync: its code. A success sets the values.
-__attribute__((noipa)) static uint16_t peer_checked_call(struct peer_row *table, const struct desk_call *call, int64_t *values)
+PEER_CALL peer_checked_call(struct peer_row *table, const struct desk_call *call, int64_t *values)
 {
     struct peer_typed typed = {0, 0};
     if (!peer_lent_ok(call) || !peer_read_password(&call->password, &typed.password)
@@ -259,7 +262,7 @@ __attribute__((noipa)) static uint16_t peer_checked_call(struct peer_row *table,
     return peer_well_formed(row) ? peer_serve(row, call, typed, values) : DL_DAMAGED_ROW;
 }
 
-__attribute__((noipa)) static uint16_t peer_query(struct peer_row *table, const struct desk_call *call, int64_t *values)
+PEER_CALL peer_query(struct peer_row *table, const struct desk_call *call, int64_t *values)
 {
     if (!peer_lent_ok(call))
         return DL_BAD_ARGUMENT;
