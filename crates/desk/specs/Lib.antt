@@ -4,12 +4,14 @@ pub mod Desk
 pub mod Demand1
 pub mod Demand1Bytes
 pub mod Demand2
+pub mod No8106
 pub mod Demand1Laws
 pub mod LaidLaws
 pub mod RowBytesLaws
 pub mod Demand1BytesLaws
 pub mod OtherBytesLaws
 pub mod Demand2Laws
+pub mod No8106Laws
 pub mod ArgumentsLaws
 pub mod DeskLaws
 pub mod LoadLaws

@@ -4,7 +4,7 @@ use mathlib.Core.Path.{_≡_, refl, _∙_}
 use mathlib.Core.Bool.{Bool, true, false, _&&_, _||_, not, cond}
 use native.Mathlib.Nat.{div-le-self}
 use native.Mathlib.Omega.{arith}
-use borrow.Author.Tests.{leb-true, ltb-true, ltb-false, le-leb, lt-ltb}
+use borrow.Author.Tests.{eqb-true, leb-true, ltb-true, le-leb, lt-ltb}
 use lib.Dec.{eqb, leb, ltb}
 use Rattle.words.specs.Tables.{and-left, and-right}
 use Rattle.window.specs.declared.Seconds.{Seconds}
@@ -12,7 +12,6 @@ use Rattle.window.specs.declared.Offset.{Offset}
 use Rattle.window.specs.declared.Track.{Track}
 use Rattle.window.specs.Window.{timeToken, stepAt, distance, farthest, beyond}
 use Rattle.window.specs.WindowLaws.{and-both}
-use Rattle.window.specs.TokenCheck.{tooFar}
 use Rattle.row.specs.declared.Row.{Row}
 use Rattle.row.specs.Row.{numberTests, numbersOk}
 use Rattle.row.specs.RowLaws.{InWidths, row-sound}
@@ -158,7 +157,8 @@ module _ (r : Row) (l : Live r) where
       (kept-track (r .state) (errorsAfter r) (r .locked) (r .used) (l .taken) below-seven (l .ranges .locked) (l .ranges .used))
 
 -- an accepted step lies below the end of all candidates, and sets d at most 600 either way
-module _ (r : Row) (l : Live r) (clock a : ℕ) (h : clock < 2 ^ 40) (below : a < beyond (r .track) clock) (near : tooFar (r .track) clock a ≡ false) where
+module _ (r : Row) (l : Live r) (clock a : ℕ) (h : clock < 2 ^ 40) (below : a < beyond (r .track) clock)
+    (near : r .track .rule .kind ≡ timeToken → distance a (stepAt clock (r .track .period)) ≤ farthest) where
   next-ok : leb (a + 1) (lastNext (r .track)) ≡ true
   unfolding beyond
   next-ok = by-kind (eqb (r .track .rule .kind) timeToken) below
@@ -168,16 +168,16 @@ module _ (r : Row) (l : Live r) (clock a : ℕ) (h : clock < 2 ^ 40) (below : a 
       by-kind false b = le-leb (a + 1) (2 ^ 32) (omega arith)
 
   offset-after-ok : offsetOk (trackAfter (r .track) clock a) ≡ true
-  unfolding tooFar
-  offset-after-ok = by-kind (eqb (r .track .rule .kind) timeToken) (r .track .offset) near (l .ranges .offset)
+  offset-after-ok =
+      by-kind (eqb (r .track .rule .kind) timeToken) (r .track .offset) (λ t. near (eqb-true (r .track .rule .kind) timeToken t)) (l .ranges .offset)
     where
-      by-kind : (time : Bool) (d : Offset) → time && ltb farthest (distance a (stepAt clock (r .track .period))) ≡ false
+      by-kind : (time : Bool) (d : Offset) → (time ≡ true → distance a (stepAt clock (r .track .period)) ≤ farthest)
           → cond time (leb (d .0) (2 * farthest)) (eqb (d .0) farthest) ≡ true
           → cond time (leb (cond time (record { 0 = a + farthest - stepAt clock (r .track .period) }) d .0) (2 * farthest))
           (eqb (cond time (record { 0 = a + farthest - stepAt clock (r .track .period) }) d .0) farthest)
           ≡ true
       by-kind true d n o =
-          let c = ltb-false farthest (distance a (stepAt clock (r .track .period))) n in
+          let c = n refl in
           le-leb (a + farthest - stepAt clock (r .track .period)) (2 * farthest) (omega arith)
       by-kind false d n o = o
 

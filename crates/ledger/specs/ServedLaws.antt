@@ -1,16 +1,16 @@
 -- A call leaves a row in range that is not empty, with its particulars.
-use Prim.Native.Nat.{ℕ, _^_, _<_}
+use Prim.Native.Nat.{ℕ, _^_, _≤_, _<_}
 use mathlib.Core.Path.{_≡_, refl}
-use mathlib.Core.Bool.{Bool, false}
+use mathlib.Core.Bool.{Bool}
 use mathlib.Core.List.{List, []}
 use lib.Dec.{leb}
 use lib.ListN.{take}
 use Rattle.window.specs.declared.Size.{Size}
 use Rattle.window.specs.declared.Track.{Track}
 use Rattle.window.specs.declared.Outcome.{Outcome}
-use Rattle.window.specs.Window.{beyond}
+use Rattle.window.specs.Window.{timeToken, stepAt, distance, farthest, beyond}
 use Rattle.window.specs.PasswordAt.{PasswordRule, hasBy}
-use Rattle.window.specs.TokenCheck.{tooFar, singleCheck, pairCheck}
+use Rattle.window.specs.TokenCheck.{singleCheck, pairCheck}
 use Rattle.window.specs.Meaning.{candidate-bounded, candidate-near, single-accepts-candidate, pair-accepts-candidate}
 use Rattle.row.specs.declared.Row.{Row}
 use Rattle.token.specs.declared.calls.Call.{Call}
@@ -28,7 +28,7 @@ use Rattle.ledger.specs.RangeLaws.{leaves-itself, leaves-next, waited-le
 
 -- an accepted step is below the end of all candidates, and sets d at most 600 either way
 abbrev Fits : Track → ℕ → Outcome → Type 0
-Fits k clock (Outcome.Accepted a) = (a .0 < beyond k clock) × (tooFar k clock (a .0) ≡ false)
+Fits k clock (Outcome.Accepted a) = (a .0 < beyond k clock) × (k .rule .kind ≡ timeToken → distance (a .0) (stepAt clock (k .period)) ≤ farthest)
 Fits k clock Outcome.TooFar = Unit {0}
 Fits k clock Outcome.Used = Unit {0}
 Fits k clock Outcome.Wrong = Unit {0}

@@ -5,15 +5,15 @@ use mathlib.Core.Bool.{Bool, true, false, cond}
 use mathlib.Core.List.{List, [], _∷_}
 use native.Mathlib.Nat.{div-le-self}
 use native.Mathlib.Omega.{arith}
-use borrow.Author.Tests.{le-leb, lt-leb, ltb-false, eq-eqb}
+use borrow.Author.Tests.{le-leb, lt-leb}
 use lib.Dec.{eqb}
 use lib.ListN.{length}
 use Rattle.window.specs.declared.Size.{Size}
 use Rattle.window.specs.declared.Track.{Track}
 use Rattle.window.specs.declared.Outcome.{Outcome}
-use Rattle.window.specs.Window.{timeToken, stepAt, distance, farthest, candidate, beyond, Sound}
+use Rattle.window.specs.Window.{timeToken, stepAt, farthest, candidate, beyond, Sound}
 use Rattle.window.specs.PasswordAt.{passwordAt, hasBy, hasPassword}
-use Rattle.window.specs.TokenCheck.{tooFar, singleCheck, pairCheck, checkOf}
+use Rattle.window.specs.TokenCheck.{singleCheck, pairCheck, checkOf}
 use Rattle.window.specs.TokenCheckLaws.{check-accepts-candidate}
 use Rattle.window.specs.Meaning.{candidate-bounded, candidate-near}
 use Rattle.row.specs.declared.Row.{Row}
@@ -31,11 +31,11 @@ use Rattle.token.specs.Serving.{refusing, judging, timely, serving, serv
 
 -- a candidate may be accepted
 candidate-accepted : (k : Track) (clock : ℕ) (size : Size) (a : ℕ) → Sound k clock → candidate k clock size a ≡ true → Near k clock a
-unfolding beyond tooFar
+unfolding beyond
 candidate-accepted k clock size a good c =
     record {
       fits = below (eqb (k .rule .kind) timeToken) (candidate-bounded k clock size a c);
-      close = λ t. ltb-false farthest (distance a (stepAt clock (k .period))) (rw (eq-eqb (k .rule .kind) timeToken t) at (candidate-near k clock size a c));
+      close = candidate-near k clock size a c;
     }
   where
     below : (b : Bool) → a < cond b (stepAt clock (k .period) + farthest + 1) (2 ^ 32) → a < 2 ^ 41

@@ -1,12 +1,12 @@
 -- What the checks of a token mean, in words a reader knows: accepted, used and wrong, each exactly when it should be.
 use Prim.Native.Nat.{ℕ, _+_, _≤_, _<_}
 use mathlib.Core.Path.{_≡_, refl, sym, ap, _∙_}
-use mathlib.Core.Bool.{Bool, true, false, cond, _&&_}
+use mathlib.Core.Bool.{Bool, true, false, _&&_}
 use mathlib.Core.Logic.{⊎-elim}
 use mathlib.Core.Option.{Option, none, some}
 use native.Mathlib.Nat.{add-zero, le-trans}
 use native.Mathlib.Omega.{arith}
-use borrow.Author.Tests.{leb-true, le-ltb, lt-ltb, le-leb, ltb-true}
+use borrow.Author.Tests.{eq-eqb, eqb-true, leb-true, le-ltb, lt-ltb, le-leb, ltb-true}
 use lib.Dec.{eqb, leb, ltb}
 use Rattle.words.specs.Tables.{and-left, and-right}
 use Rattle.words.specs.ListsLaws.{by-test}
@@ -15,7 +15,7 @@ use Rattle.window.specs.declared.Step.{Step}
 use Rattle.window.specs.declared.Track.{Track}
 use Rattle.window.specs.declared.Outcome.{Outcome}
 use Rattle.window.specs.declared.Outcome.the-variants.{Accepted, TooFar, Used, Wrong}
-use Rattle.window.specs.Window.{timeToken, stepAt, distance, timeWidth, eventWidth, farthest, timeCandidate, eventCandidate, candidate, beyond}
+use Rattle.window.specs.Window.{timeToken, stepAt, distance, timeWidth, farthest, timeCandidate, candidate, beyond}
 use Rattle.window.specs.WindowLaws.{firstStep, endStep, candidates-are-range, end-below, and-both}
 use Rattle.window.specs.Check.{smallest, freshHit, usedHit, judged, checked, singleHit, pairHit, settled}
 use Rattle.window.specs.CheckLaws.{NoneBelow, Found, found, missing, smallest-found, clash, order}
@@ -135,26 +135,28 @@ module _ (k : Track) (clock : ℕ) (size : Size) where
       let r : leb (firstStep k clock size) s && ltb s (endStep k clock size) ≡ true = sym (candidates-are-range k clock size s) ∙ t in
       le-trans (ltb-true s (endStep k clock size) (and-right (leb (firstStep k clock size) s) (ltb s (endStep k clock size)) r)) (end-below k clock size)
 
-  -- no candidate would set d past 600 either way
-  pub candidate-near : (s : ℕ) → candidate k clock size s ≡ true → tooFar k clock s ≡ false
-  unfolding candidate timeCandidate tooFar
-  candidate-near s t = pick (eqb (k .rule .kind) timeToken) t
-    where
-      pick : (b : Bool)
-          → cond b (timeCandidate (stepAt clock (k .period)) (k .offset .0) (timeWidth size) s) (eventCandidate (k .next .0) (eventWidth size) s) ≡ true
-          → b && ltb farthest (distance s (stepAt clock (k .period))) ≡ false
-      pick true t =
-          le-ltb farthest (distance s (stepAt clock (k .period)))
-          (leb-true (distance s (stepAt clock (k .period))) farthest
-          (and-right (leb (distance (s + farthest) (stepAt clock (k .period) + k .offset .0)) (timeWidth size)) (leb (distance s (stepAt clock (k .period))) farthest) t))
-      pick false t = refl
+  -- no candidate of a time token lies more than 600 from T
+  pub candidate-near : (s : ℕ) → candidate k clock size s ≡ true → k .rule .kind ≡ timeToken → distance s (stepAt clock (k .period)) ≤ farthest
+  unfolding candidate timeCandidate
+  candidate-near s t e =
+      let c : timeCandidate (stepAt clock (k .period)) (k .offset .0) (timeWidth size) s ≡ true = rw (eq-eqb (k .rule .kind) timeToken e) at t in
+      leb-true (distance s (stepAt clock (k .period))) farthest
+      (and-right (leb (distance (s + farthest) (stepAt clock (k .period) + k .offset .0)) (timeWidth size)) (leb (distance s (stepAt clock (k .period))) farthest) c)
+
+  -- so none would set d past 600 either way
+  candidate-not-far : (s : ℕ) → candidate k clock size s ≡ true → tooFar k clock s ≡ false
+  unfolding tooFar
+  candidate-not-far s t =
+      by-test (eqb (k .rule .kind) timeToken)
+      (λ e. rw e (le-ltb farthest (distance s (stepAt clock (k .period))) (candidate-near s t (eqb-true (k .rule .kind) timeToken e))))
+      (λ f. rw f)
 
   module _ (matches : ℕ → Bool) where
     single-bounded : (s : ℕ) → singleHit (candidate k clock size) matches s ≡ true → s < beyond k clock
     single-bounded s t = candidate-bounded s (and-left (candidate k clock size s) (matches s) t)
 
     single-near : (s : ℕ) → singleHit (candidate k clock size) matches s ≡ true → tooFar k clock (s + 0) ≡ false
-    single-near s t = rw (add-zero s) (candidate-near s (and-left (candidate k clock size s) (matches s) t))
+    single-near s t = rw (add-zero s) (candidate-not-far s (and-left (candidate k clock size s) (matches s) t))
 
     pub single-accepted-exactly : ((a : Step) → singleCheck k clock size matches ≡ Accepted a → First (freshHit (singleHit (candidate k clock size) matches) (k .next .0)) (a .0))
         × ((s : ℕ) → First (freshHit (singleHit (candidate k clock size) matches) (k .next .0)) s → singleCheck k clock size matches ≡ Accepted (record { 0 = s }))
@@ -191,7 +193,7 @@ module _ (k : Track) (clock : ℕ) (size : Size) where
     pair-bounded s t = candidate-bounded s (both-candidates s t .0)
 
     pair-near : (s : ℕ) → pairHit (candidate k clock size) first second s ≡ true → tooFar k clock (s + 1) ≡ false
-    pair-near s t = candidate-near (s + 1) (both-candidates s t .1)
+    pair-near s t = candidate-not-far (s + 1) (both-candidates s t .1)
 
     -- the accepted step of a pair is the one after the smallest fresh step at which the pair matches
     pub pair-accepted-exactly : ((a : Step) → pairCheck k clock size first second ≡ Accepted a → (s : ℕ) × ((a .0 ≡ s + 1) × First (freshHit (pairHit (candidate k clock size) first second) (k .next .0)) s))
