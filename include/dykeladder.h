@@ -34,8 +34,8 @@ extern "C" {
 #endif
 
 /* The version of this header; as a number 0xMMmmpp, to be compared. */
-#define DL_VERSION        "0.1.0"
-#define DL_VERSION_NUMBER 0x000100
+#define DL_VERSION        "0.2.0"
+#define DL_VERSION_NUMBER 0x000200
 
 /* The version that the program was compiled with, DL_VERSION. */
 static inline const char *dl_version(void)
@@ -77,12 +77,10 @@ static inline const char *dl_version(void)
 #define DL_TOKEN_EXPIRED       0x8408 /* a checked call at or after the expiry */
 
 /*
- * The last refusals are those of the check. At the desk each of them but
- * DL_TOO_FAR adds 1 to the token's errors, which end at 255; if it was one of
- * the two logins and the errors are then at or above the limit, the token is
- * locked by errors at now.
+ * The last refusals are those of the check. At the desk each of them adds 1 to
+ * the token's errors, which end at 255; if it was one of the two logins and the
+ * errors are then at or above the limit, the token is locked by errors at now.
  */
-#define DL_TOO_FAR          0x8106 /* the step lies more than 600 from the clock's; no candidate does, so it never comes */
 #define DL_USED             0x8004 /* only steps before the first unused one match: dl_check and the two logins */
 #define DL_WRONG            0x8002 /* no step of the window matches: the same */
 #define DL_MANAGEMENT_USED  0x8104 /* as DL_USED, of the other checked calls */
@@ -122,7 +120,6 @@ static inline const char *dl_code_text(uint16_t code)
     case DL_TOKEN_NOT_ACTIVATED: return "the token is not activated";
     case DL_TOKEN_VOID: return "the token is void";
     case DL_TOKEN_EXPIRED: return "the token has expired";
-    case DL_TOO_FAR: return "the step is too far from the clock";
     case DL_USED: return "used password";
     case DL_WRONG: return "wrong password";
     case DL_MANAGEMENT_USED: return "used password for a management call";
@@ -263,7 +260,7 @@ uint16_t dl_password(uint8_t algorithm, const uint8_t *key, size_t key_len,
  *
  * Returns DL_BAD_ARGUMENT if an argument is out of its range; DL_DONE if an
  * unused step of the window matches, DL_USED if only used ones do, DL_WRONG if
- * none does. DL_TOO_FAR never comes. Only DL_DONE writes.
+ * none does. Only DL_DONE writes.
  */
 uint16_t dl_check(uint8_t kind, uint8_t algorithm, uint8_t digits,
                   uint8_t period, uint64_t next, uint16_t offset,

@@ -26,7 +26,7 @@ static void fixed_corners(void)
     came_up(LOADED | TAKEN | FULL | NO_TOKEN | DAMAGED);
 }
 
-// The story's codes are all those that there are, but for 8403 and 8106.
+// The story's codes are all those that there are, but for 8403.
 static void one_story(void)
 {
     struct desk_call call;

@@ -40,7 +40,7 @@ static struct answer answers[] = {
 
 enum { ANSWERS = sizeof answers / sizeof *answers };
 
-// 8106 never comes up, since no candidate is so far.
+// 8106 never comes up, since no candidate is more than 600 from the clock's step.
 static inline void came_up(unsigned wanted)
 {
     end_answers(answers, ANSWERS, wanted, TOO_FAR);

@@ -224,7 +224,22 @@ static inline void desk_add_error(uint8_t *row, const struct desk_call *call)
     row_put(row, ROW_LOCKED_AT, call->now);
 }
 
-// The refusal, or DL_DONE. 8106 has no place here: a candidate is never more than 600 from the clock's step.
+// Document 01's 8106: a match that would set d past 600 either way. Document 02, request 13, takes it out, since it never comes: how often it did, and
+// how far from the clock's step the accepted steps lay at most.
+static long desk_too_far;
+static int64_t desk_farthest;
+
+static inline int desk_is_too_far(const uint8_t *row, uint64_t now, uint64_t step)
+{
+    if (row_get(row, ROW_KIND) != DL_TIME_TOKEN)
+        return 0;
+    int64_t distance = window_distance((int64_t)step, (int64_t)(now / row_get(row, ROW_PERIOD)));
+    if (desk_farthest < distance)
+        desk_farthest = distance;
+    return distance > WINDOW_FARTHEST;
+}
+
+// The refusal, or DL_DONE.
 static inline uint16_t desk_check(uint8_t *row, const struct desk_call *call)
 {
     const struct desk_rule *rule = &desk_rules[call->name];
@@ -237,6 +252,10 @@ static inline uint16_t desk_check(uint8_t *row, const struct desk_call *call)
     if (rule->check == PAIR)
         token.following = call->following;
     struct window_answer found = window_check(&token);
+    if (found.code == DL_DONE && desk_is_too_far(row, call->now, found.step)) {
+        desk_too_far++;
+        return 0x8106;
+    }
     if (found.code == DL_DONE) {
         desk_accept(row, call->now, found.step);
         return DL_DONE;

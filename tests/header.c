@@ -6,7 +6,7 @@ static const uint16_t codes[] = {
     DL_DONE, DL_LOGGED_IN, DL_CHALLENGE_MET, DL_ACTIVATED, DL_LOCKED, DL_UNLOCKED, DL_SUSPENDED, DL_RESUMED,
     DL_SYNCHRONIZED, DL_VOIDED, DL_QUERIED, DL_LOADED, DL_BAD_ARGUMENT, DL_SERIAL_TAKEN, DL_TABLE_FULL, DL_NO_TOKEN,
     DL_DAMAGED_ROW, DL_TOKEN_READY, DL_TOKEN_LOCKED, DL_TOKEN_SUSPENDED, DL_TOKEN_NOT_ACTIVATED, DL_TOKEN_VOID,
-    DL_TOKEN_EXPIRED, DL_TOO_FAR, DL_USED, DL_WRONG, DL_MANAGEMENT_USED, DL_MANAGEMENT_WRONG, DL_SYNC_WRONG};
+    DL_TOKEN_EXPIRED, DL_USED, DL_WRONG, DL_MANAGEMENT_USED, DL_MANAGEMENT_WRONG, DL_SYNC_WRONG};
 
 enum { CODES = sizeof codes / sizeof *codes, SUCCESSES = 12, ALL_NUMBERS = 0x10000 };
 
@@ -27,6 +27,7 @@ static void texts_of_their_own(void)
     for (size_t number = 0; number < ALL_NUMBERS; number++)
         known += strcmp(dl_code_text((uint16_t)number), "unknown code") != 0;
     check(known == CODES, "%zu numbers have a text", known);
+    check(strcmp(dl_code_text(0x8106), "unknown code") == 0, "8106 has a text");
 }
 
 static void successes_and_refusals(void)

@@ -1,7 +1,7 @@
 // The desk's calls on one token, through the C interface and on a table of one row, compared with those of desk_reference.h: rows
 // that are well formed or not, every state, every check. Each test prints how often each answer came up, and fails if one that it is
 // made for never did.
-//   row         the full run: some 700,000 rows, each amid random bytes
+//   row         the full run: some 1,700,000 rows, each amid random bytes
 //   row COUNT   the short run, for valgrind: COUNT cases to a test, the row in exactly its length
 #define _DEFAULT_SOURCE
 #include "desk_calls.h"
@@ -279,6 +279,19 @@ static void bytes_behind(void)
     came_up(DAMAGED);
 }
 
+// Every second token is one whose window reaches up to 600 from the clock's step and would go on beyond.
+static void never_too_far(void)
+{
+    struct row_case made;
+    for (size_t i = 0; i < 1000000; i++) {
+        make_case(&made, i % 2 == 0 ? any_token : cut_window);
+        compare_case(&made);
+    }
+    check(desk_farthest == WINDOW_FARTHEST, "the farthest accepted step is %" PRId64 " from the clock's", desk_farthest);
+    check(desk_too_far == 0, "8106 came up %ld times", desk_too_far);
+    came_up(REACHABLE & ~DAMAGED);
+}
+
 static const struct test tests[] = {
     {"single calls with their answers written out", fixed_corners, 0},
     {"every call in every state", every_state, 0},
@@ -293,6 +306,7 @@ static const struct test tests[] = {
     {"each number at the ends of its range and past them", ends_of_ranges, 0},
     {"the same on rows of any kind and state", edges_of_another, 0},
     {"a byte that is not zero behind the key, at 58, 59 or 88 to 95", bytes_behind, 0},
+    {"a million rows, clocks and calls, and never 8106", never_too_far, 1},
     {"every answer but 8106 came up", every_answer, 0},
 };
 

@@ -120,6 +120,8 @@ static const struct corner corners[] = {
      {{ROW_ERRORS, 1}}, NO_VALUES},
     {"period 1, d 600: a pair across", {{ROW_PERIOD, 1}, OFFSET(600)}, SYNC_LARGE, 1000, 1600, 1601, 0x8105,
      {{ROW_ERRORS, 1}}, NO_VALUES},
+    {"period 1, the last clock: a step past 2^40", {{ROW_PERIOD, 1}}, CALL_LOGIN, CLOCK_END - 1, CLOCK_END + 1, NOTHING, 0x0001,
+     {ACCEPTED(CLOCK_END + 1, CLOCK_END - 1), OFFSET(2)}, STEP_OFFSET, {CLOCK_END + 1, 2}},
     {"7 digits, login", KEPT, CALL_LOGIN, 1060, SEVEN_DIGITS, NOTHING, 0x8002, {{ROW_ERRORS, 1}}, NO_VALUES},
     {"7 digits, challenge login", KEPT, CALL_CHALLENGE_LOGIN, 1060, SEVEN_DIGITS, NOTHING, 0x8002,
      {{ROW_ERRORS, 1}}, NO_VALUES},

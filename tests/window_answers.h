@@ -11,7 +11,7 @@ static struct answer answers[] = {{DL_DONE, DONE, "done", 0, 0},
                                   {DL_USED, USED, "used", 0, 0},
                                   {DL_WRONG, WRONG, "wrong", 0, 0},
                                   {DL_BAD_ARGUMENT, BAD, "bad argument", 0, 0},
-                                  {DL_TOO_FAR, TOO_FAR, "too far", 0, 0}};
+                                  {0x8106, TOO_FAR, "8106", 0, 0}};
 
 enum { ANSWERS = sizeof answers / sizeof *answers };
 
@@ -20,7 +20,7 @@ static inline void count_answer(uint16_t code)
     add_answer(answers, ANSWERS, code);
 }
 
-// DL_TOO_FAR never comes up, since no candidate is so far.
+// 8106 never comes up, since no candidate is more than 600 from the clock's step.
 static inline void came_up(unsigned wanted)
 {
     end_answers(answers, ANSWERS, wanted, TOO_FAR);

@@ -35,8 +35,8 @@ impl Error for BadArgument {}
 
 /// A refusal of the desk, in the order in which they are tested. Later versions may have more.
 ///
-/// Those up to [`DamagedRow`](Refusal::DamagedRow) leave the table as it was, those up to [`TooFar`](Refusal::TooFar) but for a
-/// wait that has run out. The others add 1 to the token's errors, which end at 255.
+/// Those up to [`DamagedRow`](Refusal::DamagedRow) leave the table as it was, those up to
+/// [`TokenExpired`](Refusal::TokenExpired) but for a wait that has run out. The others add 1 to the token's errors, which end at 255.
 ///
 /// ```
 /// # use dykeladder::Refusal;
@@ -69,8 +69,6 @@ pub enum Refusal {
     TokenVoid = 0x8407,
     /// A checked call at or after the token's expiry.
     TokenExpired = 0x8408,
-    /// The step lies more than 600 from the clock's. No candidate does, so this never comes.
-    TooFar = 0x8106,
     /// Login, challenge login: only steps before the first unused one have the password.
     Used = 0x8004,
     /// Login, challenge login: no step of the window has the password.
@@ -97,7 +95,6 @@ impl Refusal {
         Refusal::TokenNotActivated,
         Refusal::TokenVoid,
         Refusal::TokenExpired,
-        Refusal::TooFar,
         Refusal::Used,
         Refusal::Wrong,
         Refusal::ManagementUsed,
@@ -140,7 +137,6 @@ impl Refusal {
             Refusal::TokenNotActivated => "the token is not activated",
             Refusal::TokenVoid => "the token is void",
             Refusal::TokenExpired => "the token has expired",
-            Refusal::TooFar => "the step is too far from the clock",
             Refusal::Used => "used password",
             Refusal::Wrong => "wrong password",
             Refusal::ManagementUsed => "used password for a management call",

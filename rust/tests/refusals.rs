@@ -66,12 +66,17 @@ fn of_passwords() -> [Answer<()>; 5] {
     ]
 }
 
-// In the order of Refusal::ALL, in which only TooFar never comes.
+// In the order of Refusal::ALL.
 #[test]
 fn each_comes_up() {
     let answers: Vec<_> = of_rows().into_iter().chain(of_states()).chain(of_passwords()).collect();
-    let expected = Refusal::ALL.iter().copied().filter(|&refusal| refusal != Refusal::TooFar);
-    assert_eq!(answers, expected.map(Err).collect::<Vec<_>>());
+    assert_eq!(answers, Refusal::ALL.iter().copied().map(Err).collect::<Vec<_>>());
+}
+
+// Document 02, request 13.
+#[test]
+fn none_is_8106() {
+    assert_eq!(Refusal::from_code(0x8106), None);
 }
 
 #[test]

@@ -10,7 +10,7 @@ use Rattle.window.specs.declared.Size.{Size}
 use Rattle.window.specs.declared.Size.the-variants.{Small, Medium, Large}
 use Rattle.window.specs.declared.Track.{Track}
 use Rattle.window.specs.declared.Outcome.{Outcome}
-use Rattle.window.specs.declared.Outcome.the-variants.{Accepted, TooFar, Used, Wrong}
+use Rattle.window.specs.declared.Outcome.the-variants.{Accepted, Used, Wrong}
 use Rattle.window.specs.PasswordAt.{inRange}
 use Rattle.window.specs.TokenCheck.{checkOf}
 use Rattle.row.specs.Row.{trackOk}
@@ -45,7 +45,6 @@ checkArgumentsOk k clock size key challenge presented following =
 -- an accepted step goes to the first element; any other outcome leaves the output as it was
 abbrev pub outcomeLeft : Outcome → List ℕ → Left
 outcomeLeft (Accepted s) out = record { code = done; out = s .0 ∷ drop 1 out }
-outcomeLeft TooFar out = record { code = 0x8106; out = out }
 outcomeLeft Used out = record { code = 0x8004; out = out }
 outcomeLeft Wrong out = record { code = 0x8002; out = out }
 

@@ -22,8 +22,6 @@ const WRONG: u16 = 0x8002;
 
 const USED: u16 = 0x8004;
 
-const TOO_FAR: u16 = 0x8106;
-
 // The size that a number from 1 to 3 stands for.
 fn size_of(number: u8) -> Size
     ensures { λ r. ⌜ r ≡ sizeOf number ⌝ }
@@ -76,7 +74,6 @@ fn put_outcome(outcome: Outcome, step: &mut [u64]) -> u16
             step[0] = s.0;
             DONE
         }
-        Outcome::TooFar => TOO_FAR,
         Outcome::Used => USED,
         Outcome::Wrong => WRONG,
     }

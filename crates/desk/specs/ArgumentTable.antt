@@ -11,7 +11,7 @@ use Rattle.words.specs.Lists.{sameBytes, allZero, allWithin}
 use Rattle.otp.specs.Password.{decimals, challengeOk}
 use Rattle.window.specs.Window.{timeCandidate, candidate, beyond}
 use Rattle.window.specs.Check.{smallest, checked}
-use Rattle.window.specs.TokenCheck.{tooFar, singleCheck, pairCheck}
+use Rattle.window.specs.TokenCheck.{singleCheck, pairCheck}
 use Rattle.row.specs.Row.{rowAt, numberTests, numbersOk, zerosOk, wellFormed}
 use Rattle.row.specs.Table.{hasSerial, firstRow, findRow, findEmpty, storeRow, wipeKey}
 use Rattle.token.specs.Codes.{numberOf}
@@ -140,7 +140,7 @@ refusedLoads =
     ∷ []
 
 pub arguments-hold : (allTaken takenCalls && allRefused refusedCalls) && (allTaken takenLoads && allRefused refusedLoads) ≡ true
-unfolding beAt beBytes putBe sameBytes allZero allWithin decimals challengeOk timeCandidate candidate beyond smallest checked tooFar singleCheck pairCheck
+unfolding beAt beBytes putBe sameBytes allZero allWithin decimals challengeOk timeCandidate candidate beyond smallest checked singleCheck pairCheck
     rowAt numberTests numbersOk zerosOk wellFormed hasSerial firstRow findRow findEmpty storeRow wipeKey
     waitOver waited moved accepted failed serving served querying servedAt queriedAt tableOk passwordOk challengeGiven requestOk loadOk requestedAt deskAfter
 arguments-hold = refl

@@ -10,7 +10,7 @@ use Rattle.words.specs.Lists.{sameBytes, allZero, allWithin}
 use Rattle.otp.specs.Password.{decimals, challengeOk}
 use Rattle.window.specs.Window.{timeCandidate, candidate, beyond}
 use Rattle.window.specs.Check.{smallest, checked}
-use Rattle.window.specs.TokenCheck.{tooFar, singleCheck, pairCheck}
+use Rattle.window.specs.TokenCheck.{singleCheck, pairCheck}
 use Rattle.row.specs.Row.{rowAt, beforeKey, stepBytes, timeBytes, render, numberTests, numbersOk, zerosOk, wellFormed}
 use Rattle.row.specs.Table.{hasSerial, firstRow, findRow, findEmpty, storeRow, wipeKey, writeRow}
 use Rattle.token.specs.Codes.{signedOf, valuesOf}
@@ -297,7 +297,7 @@ markedLines =
 pub call-table-holds
     : ((allHold acceptedLines && allHold usedLines) && (allHold wrongLines && allHold miscountedLines)) && ((allHold waitedLines && allHold expiredLines) && (allHold loadLines && (allHold foundLines && allHold markedLines)))
     ≡ true
-unfolding beAt beBytes putBe sameBytes allZero allWithin decimals challengeOk timeCandidate candidate beyond smallest checked tooFar singleCheck pairCheck
+unfolding beAt beBytes putBe sameBytes allZero allWithin decimals challengeOk timeCandidate candidate beyond smallest checked singleCheck pairCheck
     rowAt beforeKey stepBytes timeBytes render numberTests numbersOk zerosOk wellFormed hasSerial firstRow findRow findEmpty storeRow wipeKey writeRow
     signedOf valuesOf waitOver waited moved accepted failed serving served querying servedAt queriedAt
     tableOk passwordOk challengeGiven requestOk loadOk requestedAt deskAfter

@@ -1,6 +1,6 @@
 -- The buyer's first demand (docs/OFFER.md): one of the codes listed for the call, and the bytes named for that code. It holds for every
 -- password rule; `Demand1Laws` has the proof.
-use Prim.Native.Nat.{ℕ, _+_}
+use Prim.Native.Nat.{ℕ}
 use mathlib.Core.Path.{_≡_}
 use mathlib.Core.Bool.{true, cond}
 use mathlib.Core.List.{List, [], _∷_}
@@ -19,14 +19,14 @@ use Rattle.desk.specs.Requests.{Request, DeskCall, loadedRow}
 use Rattle.desk.specs.Desk.{syncCall, deskAfter}
 
 abbrev pub requestCodes : Request → List ℕ
-requestCodes (Request.login password) = 0x0001 ∷ 0x8404 ∷ 0x8405 ∷ 0x8406 ∷ 0x8407 ∷ 0x8408 ∷ 0x8106 ∷ 0x8004 ∷ 0x8002 ∷ []
-requestCodes (Request.challengeLogin challenge password) = 0x0002 ∷ 0x8404 ∷ 0x8405 ∷ 0x8406 ∷ 0x8407 ∷ 0x8408 ∷ 0x8106 ∷ 0x8004 ∷ 0x8002 ∷ []
-requestCodes (Request.activate password following) = 0x0101 ∷ 0x8409 ∷ 0x8404 ∷ 0x8405 ∷ 0x8407 ∷ 0x8408 ∷ 0x8106 ∷ 0x8104 ∷ 0x8102 ∷ []
+requestCodes (Request.login password) = 0x0001 ∷ 0x8404 ∷ 0x8405 ∷ 0x8406 ∷ 0x8407 ∷ 0x8408 ∷ 0x8004 ∷ 0x8002 ∷ []
+requestCodes (Request.challengeLogin challenge password) = 0x0002 ∷ 0x8404 ∷ 0x8405 ∷ 0x8406 ∷ 0x8407 ∷ 0x8408 ∷ 0x8004 ∷ 0x8002 ∷ []
+requestCodes (Request.activate password following) = 0x0101 ∷ 0x8409 ∷ 0x8404 ∷ 0x8405 ∷ 0x8407 ∷ 0x8408 ∷ 0x8104 ∷ 0x8102 ∷ []
 requestCodes Request.lock = 0x0102 ∷ 0x8404 ∷ 0x8405 ∷ 0x8406 ∷ 0x8407 ∷ []
-requestCodes (Request.unlock password) = 0x0103 ∷ 0x8409 ∷ 0x8405 ∷ 0x8406 ∷ 0x8407 ∷ 0x8408 ∷ 0x8106 ∷ 0x8104 ∷ 0x8102 ∷ []
+requestCodes (Request.unlock password) = 0x0103 ∷ 0x8409 ∷ 0x8405 ∷ 0x8406 ∷ 0x8407 ∷ 0x8408 ∷ 0x8104 ∷ 0x8102 ∷ []
 requestCodes Request.suspend = 0x0104 ∷ 0x8405 ∷ 0x8406 ∷ 0x8407 ∷ []
-requestCodes (Request.resume password) = 0x0105 ∷ 0x8409 ∷ 0x8404 ∷ 0x8406 ∷ 0x8407 ∷ 0x8408 ∷ 0x8106 ∷ 0x8104 ∷ 0x8102 ∷ []
-requestCodes (Request.sync choice password following) = 0x0108 ∷ 0x8405 ∷ 0x8406 ∷ 0x8407 ∷ 0x8408 ∷ 0x8106 ∷ 0x8104 ∷ 0x8105 ∷ []
+requestCodes (Request.resume password) = 0x0105 ∷ 0x8409 ∷ 0x8404 ∷ 0x8406 ∷ 0x8407 ∷ 0x8408 ∷ 0x8104 ∷ 0x8102 ∷ []
+requestCodes (Request.sync choice password following) = 0x0108 ∷ 0x8405 ∷ 0x8406 ∷ 0x8407 ∷ 0x8408 ∷ 0x8104 ∷ 0x8105 ∷ []
 requestCodes Request.void = 0x010a ∷ 0x8407 ∷ []
 requestCodes Request.query = 0x010b ∷ []
 
@@ -54,7 +54,7 @@ atPlace s Place.Nowhere written = s
 
 -- the column "Left in the table": the codes that leave only a wait run out, and those that add an error
 abbrev pub waitCodes : List ℕ
-waitCodes = 0x8409 ∷ 0x8404 ∷ 0x8405 ∷ 0x8406 ∷ 0x8407 ∷ 0x8408 ∷ 0x8106 ∷ []
+waitCodes = 0x8409 ∷ 0x8404 ∷ 0x8405 ∷ 0x8406 ∷ 0x8407 ∷ 0x8408 ∷ []
 
 abbrev pub errorCodes : List ℕ
 errorCodes = 0x8004 ∷ 0x8104 ∷ 0x8002 ∷ 0x8102 ∷ 0x8105 ∷ []

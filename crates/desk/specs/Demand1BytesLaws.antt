@@ -175,7 +175,6 @@ module _ (s : List ℕ) (at clock : ℕ) (room : at + 96 ≤ length s) where
 
   judging-leaves : (call : Call) → Judged call → (o : Outcome) → Leaves (judging call row clock o)
   judging-leaves call j (Outcome.Accepted a) = rw (j .keeps) (j .accepted (a .0))
-  judging-leaves call j Outcome.TooFar = (refl, refl)
   judging-leaves call j Outcome.Used = j .used
   judging-leaves call j Outcome.Wrong = j .wrong
 

@@ -56,7 +56,7 @@ stateListed request call state = (eqb state empty || allowed call state) || keep
 -- the refusals of a checked request are listed, and it zeroes no key
 abbrev checkedListed : Request → Call → Bool
 checkedListed request call =
-    ((keeps request Refusal.Expired && keeps request Refusal.TooFar) && (counts request (usedRefusal call) && counts request (wrongRefusal call))) && not (isVoid call)
+    (keeps request Refusal.Expired && (counts request (usedRefusal call) && counts request (wrongRefusal call))) && not (isVoid call)
 
 abbrev checkListed : Request → Call → Checking → Bool
 checkListed request call Checking.Nothing = true
@@ -132,7 +132,6 @@ module _ (request : Request) (clock : ℕ) (s : List ℕ) (at : ℕ) where
     module _ (t : checkedListed request (nameOf request) ≡ true) where
       judging-fits : (o : Outcome) → Fits (stored s at (judging (nameOf request) row clock o))
       judging-fits (Outcome.Accepted a) = let v : isVoid (nameOf request) ≡ false = search (and-left, and-right, not-true) depth 6 in (l .success, rw v)
-      judging-fits Outcome.TooFar = kept-fits Refusal.TooFar (search (and-left, and-right) depth 6)
       judging-fits Outcome.Used = counted-fits (usedRefusal (nameOf request)) (search (and-left, and-right) depth 6)
       judging-fits Outcome.Wrong = counted-fits (wrongRefusal (nameOf request)) (search (and-left, and-right) depth 6)
 

@@ -20,7 +20,7 @@ use Rattle.window.specs.PasswordAt.{PasswordRule, hasBy}
 use Rattle.window.specs.Check.{smallest, freshHit, usedHit, singleHit, pairHit}
 use Rattle.window.specs.CheckLaws.{Found, found, missing, smallest-found, clash}
 use Rattle.window.specs.TokenCheck.{singleCheck, pairCheck}
-use Rattle.window.specs.Meaning.{Never, First, single-accepted-exactly, single-used-exactly, single-wrong-exactly, single-never-too-far, pair-accepted-exactly, pair-used-exactly, pair-wrong-exactly, pair-never-too-far}
+use Rattle.window.specs.Meaning.{Never, First, single-accepted-exactly, single-used-exactly, single-wrong-exactly, pair-accepted-exactly, pair-used-exactly, pair-wrong-exactly}
 use Rattle.row.specs.declared.Row.{Row}
 use Rattle.row.specs.Row.{rowAt}
 use Rattle.token.specs.declared.calls.Call.{Call}
@@ -46,7 +46,6 @@ module _ (hit : ℕ → Bool) (ahead next : ℕ) where
     used : (o ≡ Outcome.Used → Never (freshHit hit next) × ((s : ℕ) × (usedHit hit next s ≡ true)))
         × (Never (freshHit hit next) → (s : ℕ) → usedHit hit next s ≡ true → o ≡ Outcome.Used)
     wrong : (o ≡ Outcome.Wrong → Never hit) × (Never hit → o ≡ Outcome.Wrong)
-    near : o ≡ Outcome.TooFar → ⊥
 
 module _ (k : Track) (clock : ℕ) (size : Size) where
   single-meant : (matches : ℕ → Bool) → Meant (singleHit (candidate k clock size) matches) 0 (k .next .0) (singleCheck k clock size matches)
@@ -56,7 +55,6 @@ module _ (k : Track) (clock : ℕ) (size : Size) where
         accepted = (λ a e. (a .0, law .0 a e), λ s f. rw (add-zero s) (law .1 s f));
         used = single-used-exactly k clock size matches;
         wrong = single-wrong-exactly k clock size matches;
-        near = single-never-too-far k clock size matches;
       }
 
   pair-meant : (first second : ℕ → Bool) → Meant (pairHit (candidate k clock size) first second) 1 (k .next .0) (pairCheck k clock size first second)
@@ -66,7 +64,6 @@ module _ (k : Track) (clock : ℕ) (size : Size) where
         accepted = (λ a e. let l = law .0 a e in (l .0, l .1 .1), law .1);
         used = pair-used-exactly k clock size first second;
         wrong = pair-wrong-exactly k clock size first second;
-        near = pair-never-too-far k clock size first second;
       }
 
 -- a number that passes leads to the smallest one
@@ -82,7 +79,7 @@ first-passes test x t = by-found (smallest test (suc x)) (smallest-found test (s
 abbrev codesFit : Call → Checking → Bool
 codesFit call c =
     ((eqb (successNumber call) (c .success) && eqb (refusalNumber (usedRefusal call)) (c .used)) && eqb (refusalNumber (wrongRefusal call)) (c .wrong))
-    && ((ltb (c .success) (c .used) && ltb (c .success) (c .wrong)) && ((ltb (c .used) 0x8106 && ltb (c .wrong) 0x8106) && not (eqb (c .used) (c .wrong))))
+    && ((ltb (c .success) (c .used) && ltb (c .success) (c .wrong)) && not (eqb (c .used) (c .wrong)))
 
 record Coded (call : Call) (c : Checking) : Type 0 where
   success : successNumber call ≡ c .success
@@ -90,8 +87,6 @@ record Coded (call : Call) (c : Checking) : Type 0 where
   wrong : refusalNumber (wrongRefusal call) ≡ c .wrong
   success-used : c .success < c .used
   success-wrong : c .success < c .wrong
-  used-far : c .used < 0x8106
-  wrong-far : c .wrong < 0x8106
   used-wrong : c .used ≡ c .wrong → ⊥
 
 coded : (call : Call) (c : Checking) → codesFit call c ≡ true → Coded call c
@@ -102,8 +97,6 @@ coded call c t =
       wrong = search (and-left, and-right, eqb-true) depth 8;
       success-used = search (and-left, and-right, ltb-true) depth 8;
       success-wrong = search (and-left, and-right, ltb-true) depth 8;
-      used-far = search (and-left, and-right, ltb-true) depth 8;
-      wrong-far = search (and-left, and-right, ltb-true) depth 8;
       used-wrong = search (and-left, and-right, eqb-false, not-true) depth 8;
     }
 
@@ -113,27 +106,23 @@ module _ (call : Call) (row : Row) (clock : ℕ) (c : Checking) (codes : Coded c
 
   told-accepted : (o : Outcome) → code o ≡ c .success → (a : Step) × (o ≡ Outcome.Accepted a)
   told-accepted (Outcome.Accepted a) e = (a, refl)
-  told-accepted Outcome.TooFar e = absurd (omega arith)
   told-accepted Outcome.Used e = absurd (omega arith)
   told-accepted Outcome.Wrong e = absurd (omega arith)
 
   told-used : (o : Outcome) → code o ≡ c .used → o ≡ Outcome.Used
   told-used (Outcome.Accepted a) e = absurd (omega arith)
-  told-used Outcome.TooFar e = absurd (omega arith)
   told-used Outcome.Used e = refl
   told-used Outcome.Wrong e = absurd (omega arith)
 
   told-wrong : (o : Outcome) → code o ≡ c .wrong → o ≡ Outcome.Wrong
   told-wrong (Outcome.Accepted a) e = absurd (omega arith)
-  told-wrong Outcome.TooFar e = absurd (omega arith)
   told-wrong Outcome.Used e = absurd (omega arith)
   told-wrong Outcome.Wrong e = refl
 
-  told-one : (o : Outcome) → (o ≡ Outcome.TooFar → ⊥) → oneOf (code o) (c .success ∷ c .used ∷ c .wrong ∷ []) ≡ true
-  told-one (Outcome.Accepted a) h = rw (codes .success, eq-eqb (c .success) (c .success) refl)
-  told-one Outcome.TooFar h = absurd (h refl)
-  told-one Outcome.Used h = rw (codes .used, eq-eqb (c .used) (c .used) refl) (or-true (eqb (c .used) (c .success)))
-  told-one Outcome.Wrong h =
+  told-one : (o : Outcome) → oneOf (code o) (c .success ∷ c .used ∷ c .wrong ∷ []) ≡ true
+  told-one (Outcome.Accepted a) = rw (codes .success, eq-eqb (c .success) (c .success) refl)
+  told-one Outcome.Used = rw (codes .used, eq-eqb (c .used) (c .used) refl) (or-true (eqb (c .used) (c .success)))
+  told-one Outcome.Wrong =
       rw (codes .wrong, eq-eqb (c .wrong) (c .wrong) refl, or-true (eqb (c .wrong) (c .used))) (or-true (eqb (c .wrong) (c .success)))
 
   module _ (hit : ℕ → Bool) (next : ℕ) (o : Outcome) (meant : Meant hit (c .ahead) next o) where
@@ -168,7 +157,7 @@ module _ (call : Call) (row : Row) (clock : ℕ) (c : Checking) (codes : Coded c
                 rw (meant .used .1 (λ y. not-fresh y (h .0 y)) (x .0) (and-both (lt-ltb (x .0) next (x .1 .0)) (x .1 .1))) (codes .used),
           );
           wrong = (λ e. meant .wrong .0 (told-wrong o e), λ h. rw (meant .wrong .1 h) (codes .wrong));
-          listed = told-one o (meant .near);
+          listed = told-one o;
         }
 
 -- ---- a ready call is judged

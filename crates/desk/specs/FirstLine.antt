@@ -76,21 +76,13 @@ stateUnfit these needed state = oneOf state these && not (oneOf state needed)
 abbrev pub expired : Row → ℕ → Bool
 expired r clock = leb (r .expiry .0) clock
 
-abbrev pub matchTooFar : Outcome → Bool
-matchTooFar (Outcome.Accepted a) = false
-matchTooFar Outcome.TooFar = true
-matchTooFar Outcome.Used = false
-matchTooFar Outcome.Wrong = false
-
 abbrev pub matchUsed : Outcome → Bool
 matchUsed (Outcome.Accepted a) = false
-matchUsed Outcome.TooFar = false
 matchUsed Outcome.Used = true
 matchUsed Outcome.Wrong = false
 
 abbrev pub nothingMatches : Outcome → Bool
 nothingMatches (Outcome.Accepted a) = false
-nothingMatches Outcome.TooFar = false
 nothingMatches Outcome.Used = false
 nothingMatches Outcome.Wrong = true
 
@@ -124,7 +116,6 @@ successCode Request.query = 0x010b
 abbrev pub checkLines : Row → ℕ → ℕ → ℕ → Outcome → List Line
 checkLines r clock used wrong outcome =
     returns 0x8408 (expired r clock)
-    ∷ returns 0x8106 (matchTooFar outcome)
     ∷ returns used (matchUsed outcome)
     ∷ returns wrong (nothingMatches outcome)
     ∷ []

@@ -83,7 +83,6 @@ sync-coded choice =
 module _ (call : Call) (r : Row) (clock : ℕ) {right used wrong : ℕ} (coded : Coded call right used wrong) where
   judged-line : (o : Outcome) → leb (r .expiry .0) clock ≡ false → numberOf (judging call r clock o .answer) ≡ firstOf (checkLines r clock used wrong o) right
   judged-line (Outcome.Accepted a) e = rw e (coded .accepts)
-  judged-line Outcome.TooFar e = rw e refl
   judged-line Outcome.Used e = rw e (coded .uses)
   judged-line Outcome.Wrong e = rw e (coded .fails)
 

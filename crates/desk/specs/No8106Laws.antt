@@ -15,11 +15,9 @@ use Rattle.window.specs.declared.Outcome.{Outcome}
 use Rattle.window.specs.Window.{timeToken, stepAt, distance, candidate}
 use Rattle.window.specs.PasswordAt.{PasswordRule}
 use Rattle.window.specs.TokenCheck.{singleCheck, pairCheck}
-use Rattle.window.specs.Meaning.{candidate-near, single-accepts-candidate, single-never-too-far, pair-accepts-candidate, pair-never-too-far}
+use Rattle.window.specs.Meaning.{candidate-near, single-accepts-candidate, pair-accepts-candidate}
 use Rattle.row.specs.declared.Row.{Row}
-use Rattle.row.specs.declared.reading.Place.{Place}
 use Rattle.row.specs.Row.{rowAt, wellFormed}
-use Rattle.row.specs.Table.{findRow, findEmpty}
 use Rattle.token.specs.declared.calls.Call.{Call}
 use Rattle.token.specs.declared.calls.Checking.{Checking}
 use Rattle.token.specs.declared.answers.Status.{Status}
@@ -27,79 +25,38 @@ use Rattle.token.specs.declared.answers.Content.{Content}
 use Rattle.token.specs.declared.answers.Refusal.{Refusal}
 use Rattle.token.specs.declared.answers.Answer.{Answer}
 use Rattle.token.specs.declared.serving.Served.{Served}
-use Rattle.token.specs.Calls.{ready, suspended, inactive, void, empty, isLogin, isSync, allowed, checkingOf, usedRefusal, wrongRefusal, stateRefusal}
+use Rattle.token.specs.Calls.{allowed, checkingOf, usedRefusal, wrongRefusal, stateRefusal}
 use Rattle.token.specs.Codes.{successNumber, numberOf}
 use Rattle.token.specs.States.{waited}
 use Rattle.token.specs.StatesLaws.{waited-track}
 use Rattle.token.specs.Serving.{judging, timely, checking, permitted, serving, served, querying}
 use Rattle.token.specs.OnTable.{Result, servedAt, queriedAt}
-use Rattle.desk.specs.declared.Particulars.{Particulars}
-use Rattle.desk.specs.Requests.{Request, DeskCall, tableOk, clockOk, requestOk, loadOk}
-use Rattle.desk.specs.Desk.{loadedAt, loadedBeside, syncCall, requestedAt, requestedOf, deskAfter}
+use Rattle.desk.specs.Requests.{Request, tableOk, clockOk, requestOk}
+use Rattle.desk.specs.Desk.{syncCall, requestedAt, deskAfter}
 use Rattle.desk.specs.Demand2.{stepOf}
 use Rattle.desk.specs.No8106.{No8106, AcceptedNear}
 
--- ---- the refusals that come
-
-abbrev isTooFar : Refusal → Bool
-isTooFar Refusal.BadArgument = false
-isTooFar Refusal.AlreadyLoaded = false
-isTooFar Refusal.TableFull = false
-isTooFar Refusal.Unknown = false
-isTooFar Refusal.Damaged = false
-isTooFar Refusal.Ready = false
-isTooFar Refusal.Locked = false
-isTooFar Refusal.Suspended = false
-isTooFar Refusal.Inactive = false
-isTooFar Refusal.Void = false
-isTooFar Refusal.Expired = false
-isTooFar Refusal.TooFar = true
-isTooFar Refusal.UsedAtLogin = false
-isTooFar Refusal.Used = false
-isTooFar Refusal.WrongAtLogin = false
-isTooFar Refusal.Wrong = false
-isTooFar Refusal.WrongAtSync = false
-
-abbrev Comes : Refusal → Type 0
-Comes f = isTooFar f ≡ false
-
-used-comes : (call : Call) → Comes (usedRefusal call)
-used-comes call = either Comes (isLogin call) refl refl
-
-wrong-comes : (call : Call) → Comes (wrongRefusal call)
-wrong-comes call = either Comes (isLogin call) refl (either Comes (isSync call) refl refl)
-
-state-comes : (state : ℕ) → Comes (stateRefusal state)
-state-comes state =
-    either Comes (eqb state ready) refl
-    (either Comes (eqb state suspended) refl
-    (either Comes (eqb state inactive) refl
-    (either Comes (eqb state void) refl
-    (either Comes (eqb state empty) refl refl))))
-
 -- ---- what holds of every way in which a call on the row at a place is answered
 
-module _ (s : List ℕ) (at clock : ℕ) (Holds : Answer → Type 0) (refused : (f : Refusal) → Comes f → Holds (Answer.Refused f))
+module _ (s : List ℕ) (at clock : ℕ) (Holds : Answer → Type 0) (refused : (f : Refusal) → Holds (Answer.Refused f))
     (plain : (call : Call) → Holds (Answer.Success call Content.Plain)) (told : (status : Status) → Holds (Answer.Success Call.Query (Content.Told status)))
     (accepted : (call : Call) (size : Size) (a : Step) (d : Offset) → candidate (rowAt s at .track) clock size (a .0) ≡ true
     → Holds (Answer.Success call (Content.Checked a d))) where
   abbrev Serves : Served → Type 0
   Serves d = Holds (d .answer)
 
-  -- an outcome of a check: a candidate is accepted, and none is too far
-  record Checked (size : Size) (o : Outcome) : Type 0 where
-    near : o ≡ Outcome.TooFar → ⊥
-    step : (a : Step) → o ≡ Outcome.Accepted a → candidate (rowAt s at .track) clock size (a .0) ≡ true
+  -- the step that a check accepts is a candidate
+  abbrev Checked : Size → Outcome → Type 0
+  Checked size o = (a : Step) → o ≡ Outcome.Accepted a → candidate (rowAt s at .track) clock size (a .0) ≡ true
 
   module _ (call : Call) (r : Row) where
     judging-holds : (size : Size) (o : Outcome) → Checked size o → Serves (judging call r clock o)
-    judging-holds size (Outcome.Accepted a) c = accepted call size a _ (c .step a refl)
-    judging-holds size Outcome.TooFar c = absurd (c .near refl)
-    judging-holds size Outcome.Used c = refused (usedRefusal call) (used-comes call)
-    judging-holds size Outcome.Wrong c = refused (wrongRefusal call) (wrong-comes call)
+    judging-holds size (Outcome.Accepted a) c = accepted call size a _ (c a refl)
+    judging-holds size Outcome.Used c = refused (usedRefusal call)
+    judging-holds size Outcome.Wrong c = refused (wrongRefusal call)
 
     timely-holds : (size : Size) (o : Outcome) → Checked size o → Serves (timely call r clock o)
-    timely-holds size o c = either Serves (leb (r .expiry .0) clock) (refused Refusal.Expired refl) (judging-holds size o c)
+    timely-holds size o c = either Serves (leb (r .expiry .0) clock) (refused Refusal.Expired) (judging-holds size o c)
 
     module _ (single pair : Track → Size → Outcome) (alone : (size : Size) → Checked size (single (r .track) size))
         (together : (size : Size) → Checked size (pair (r .track) size)) where
@@ -110,16 +67,14 @@ module _ (s : List ℕ) (at clock : ℕ) (Holds : Answer → Type 0) (refused : 
 
       permitted-holds : Serves (permitted call r clock single pair)
       permitted-holds =
-          either Serves (allowed call (r .state)) (checking-holds (checkingOf call)) (refused (stateRefusal (r .state)) (state-comes (r .state)))
+          either Serves (allowed call (r .state)) (checking-holds (checkingOf call)) (refused (stateRefusal (r .state)))
 
   module _ (k : Track) (same : k ≡ rowAt s at .track) (size : Size) where
     single-checked : (matches : ℕ → Bool) → Checked size (singleCheck k clock size matches)
-    single-checked matches =
-        record { near = single-never-too-far k clock size matches; step = λ a e. rw same at (single-accepts-candidate k clock size matches e) }
+    single-checked matches a e = rw same at (single-accepts-candidate k clock size matches e)
 
     pair-checked : (first second : ℕ → Bool) → Checked size (pairCheck k clock size first second)
-    pair-checked first second =
-        record { near = pair-never-too-far k clock size first second; step = λ a e. rw same at (pair-accepts-candidate k clock size first second e) }
+    pair-checked first second a e = rw same at (pair-accepts-candidate k clock size first second e)
 
   module _ (passwords : PasswordRule) where
     abbrev Results : Result → Type 0
@@ -133,7 +88,7 @@ module _ (s : List ℕ) (at clock : ℕ) (Holds : Answer → Type 0) (refused : 
         (permitted-holds call (waited (rowAt s at) clock) _ _
         (λ size. single-checked (waited (rowAt s at) clock .track) same size _)
         (λ size. pair-checked (waited (rowAt s at) clock .track) same size _ _))
-        (refused Refusal.Damaged refl)
+        (refused Refusal.Damaged)
 
     requested-holds : (request : Request) → Results (requestedAt passwords request clock s at)
     unfolding requestedAt queriedAt querying
@@ -146,31 +101,30 @@ module _ (s : List ℕ) (at clock : ℕ) (Holds : Answer → Type 0) (refused : 
     requested-holds (Request.resume password) = served-holds Call.Resume [] password []
     requested-holds (Request.sync choice password following) = served-holds (syncCall choice) [] password following
     requested-holds Request.void = served-holds Call.Void [] [] []
-    requested-holds Request.query = either Holds (wellFormed s at) (told _) (refused Refusal.Damaged refl)
+    requested-holds Request.query = either Holds (wellFormed s at) (told _) (refused Refusal.Damaged)
 
 -- ---- 8106
 
 abbrev Other : Answer → Type 0
 Other answer = eqb (numberOf answer) 0x8106 ≡ false
 
-refusal-other : (f : Refusal) → Comes f → Other (Answer.Refused f)
-refusal-other Refusal.BadArgument c = refl
-refusal-other Refusal.AlreadyLoaded c = refl
-refusal-other Refusal.TableFull c = refl
-refusal-other Refusal.Unknown c = refl
-refusal-other Refusal.Damaged c = refl
-refusal-other Refusal.Ready c = refl
-refusal-other Refusal.Locked c = refl
-refusal-other Refusal.Suspended c = refl
-refusal-other Refusal.Inactive c = refl
-refusal-other Refusal.Void c = refl
-refusal-other Refusal.Expired c = refl
-refusal-other Refusal.TooFar c = c
-refusal-other Refusal.UsedAtLogin c = refl
-refusal-other Refusal.Used c = refl
-refusal-other Refusal.WrongAtLogin c = refl
-refusal-other Refusal.Wrong c = refl
-refusal-other Refusal.WrongAtSync c = refl
+refusal-other : (f : Refusal) → Other (Answer.Refused f)
+refusal-other Refusal.BadArgument = refl
+refusal-other Refusal.AlreadyLoaded = refl
+refusal-other Refusal.TableFull = refl
+refusal-other Refusal.Unknown = refl
+refusal-other Refusal.Damaged = refl
+refusal-other Refusal.Ready = refl
+refusal-other Refusal.Locked = refl
+refusal-other Refusal.Suspended = refl
+refusal-other Refusal.Inactive = refl
+refusal-other Refusal.Void = refl
+refusal-other Refusal.Expired = refl
+refusal-other Refusal.UsedAtLogin = refl
+refusal-other Refusal.Used = refl
+refusal-other Refusal.WrongAtLogin = refl
+refusal-other Refusal.Wrong = refl
+refusal-other Refusal.WrongAtSync = refl
 
 success-other : (call : Call) → eqb (successNumber call) 0x8106 ≡ false
 success-other Call.Load = refl
@@ -186,28 +140,13 @@ success-other Call.SyncLarge = refl
 success-other Call.Void = refl
 success-other Call.Query = refl
 
-module _ (passwords : PasswordRule) (s : List ℕ) where
-  abbrev ResultOther : Result → Type 0
-  ResultOther x = Other (x .answer)
+answer-other : (answer : Answer) → Other answer
+answer-other (Answer.Success call content) = success-other call
+answer-other (Answer.Refused refusal) = refusal-other refusal
 
-  named-other : (request : Request) (clock : ℕ) (place : Place) → ResultOther (requestedOf passwords request clock s place)
-  named-other request clock (Place.At at) =
-      requested-holds s at clock Other refusal-other success-other (λ status. refl) (λ call size a d c. success-other call) passwords request
-  named-other request clock Place.Nowhere = refl
-
-  loaded-other : (p : Particulars) (key : List ℕ) (place : Place) → ResultOther (loadedAt p key s place)
-  loaded-other p key (Place.At at) = refl
-  loaded-other p key Place.Nowhere = refl
-
-  beside-other : (p : Particulars) (key : List ℕ) (place : Place) → ResultOther (loadedBeside p key s place)
-  beside-other p key (Place.At other) = refl
-  beside-other p key Place.Nowhere = loaded-other p key (findEmpty s)
-
+-- no answer has that number
 pub no-8106 : No8106
-unfolding deskAfter
-no-8106 passwords (DeskCall.load p key) s = either (ResultOther passwords s) (tableOk s && loadOk p key) (beside-other passwords s p key (findRow s (p .serial))) refl
-no-8106 passwords (DeskCall.named request serial clock) s =
-    either (ResultOther passwords s) (tableOk s && (clockOk clock && requestOk request)) (named-other passwords s request clock (findRow s serial)) refl
+no-8106 passwords call s = answer-other (deskAfter passwords call s .answer)
 
 -- ---- an accepted step is a candidate
 
@@ -225,7 +164,7 @@ module _ (s : List ℕ) (at clock x : ℕ) where
 
   requested-near : (passwords : PasswordRule) (request : Request) → NearIn s at clock x (requestedAt passwords request clock s at .answer)
   requested-near passwords request =
-      requested-holds s at clock (NearIn s at clock x) (λ f c. refusal-near f)
+      requested-holds s at clock (NearIn s at clock x) refusal-near
       (λ call e t. let z : _≡_ {A = ℕ} 0 1 = cc in absurd (omega arith)) (λ status e t. let z : _≡_ {A = ℕ} 0 1 = cc in absurd (omega arith))
       candidate-accepted-near passwords request
 

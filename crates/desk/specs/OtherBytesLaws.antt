@@ -120,7 +120,6 @@ module _ (s : List ℕ) (at clock : ℕ) where
   refusal-covered Refusal.Inactive = waited-covered _ [] refl refl
   refusal-covered Refusal.Void = waited-covered _ [] refl refl
   refusal-covered Refusal.Expired = waited-covered _ [] refl refl
-  refusal-covered Refusal.TooFar = waited-covered _ [] refl refl
   refusal-covered Refusal.UsedAtLogin = waited-covered _ _ refl login-fits
   refusal-covered Refusal.Used = waited-covered _ _ refl refl
   refusal-covered Refusal.WrongAtLogin = waited-covered _ _ refl login-fits

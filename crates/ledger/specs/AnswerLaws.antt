@@ -58,7 +58,6 @@ module _ (l : Loaded) (next serial clock : ℕ) (request : Request) where
       (u : eqb (refusalNumber used) 0x010a ≡ false) (w : eqb (refusalNumber wrong) 0x010a ≡ false) where
     outcome-fits : (o : Outcome) → FreshIfAccepted next o → Fits (judgedBy call used wrong k clock o)
     outcome-fits (Outcome.Accepted a) f = other-fits f numbered
-    outcome-fits Outcome.TooFar f = refusal-fits Refusal.TooFar refl
     outcome-fits Outcome.Used f = refusal-fits used u
     outcome-fits Outcome.Wrong f = refusal-fits wrong w
 

@@ -53,7 +53,6 @@ refusal-coded Refusal.Suspended = refl
 refusal-coded Refusal.Inactive = refl
 refusal-coded Refusal.Void = refl
 refusal-coded Refusal.Expired = refl
-refusal-coded Refusal.TooFar = refl
 refusal-coded Refusal.UsedAtLogin = refl
 refusal-coded Refusal.Used = refl
 refusal-coded Refusal.WrongAtLogin = refl
@@ -77,7 +76,6 @@ module _ (call : Call) (r : Row) (clock : ℕ) where
 
   judging-coded : oneOf (successNumber call) acceptanceCodes ≡ true → (o : Outcome) → ServedCoded (judging call r clock o)
   judging-coded t (Outcome.Accepted a) = t
-  judging-coded t Outcome.TooFar = refl
   judging-coded t Outcome.Used = refusal-coded (usedRefusal call)
   judging-coded t Outcome.Wrong = refusal-coded (wrongRefusal call)
 

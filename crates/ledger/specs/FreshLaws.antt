@@ -17,13 +17,11 @@ use Rattle.window.specs.Meaning.{single-accepted-exactly, pair-accepted-exactly
 
 abbrev pub FreshIfAccepted : ℕ → Outcome → Type 0
 FreshIfAccepted next (Outcome.Accepted a) = next ≤ a .0
-FreshIfAccepted next Outcome.TooFar = Unit {0}
 FreshIfAccepted next Outcome.Used = Unit {0}
 FreshIfAccepted next Outcome.Wrong = Unit {0}
 
 by-outcome : (next : ℕ) (o : Outcome) → ((a : Step) → o ≡ Outcome.Accepted a → next ≤ a .0) → FreshIfAccepted next o
 by-outcome next (Outcome.Accepted a) h = h a refl
-by-outcome next Outcome.TooFar h = tt
 by-outcome next Outcome.Used h = tt
 by-outcome next Outcome.Wrong h = tt
 

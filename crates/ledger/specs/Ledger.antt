@@ -188,10 +188,9 @@ needing states state answer =
 abbrev pub offsetWith : Track → ℕ → ℕ → Offset
 offsetWith k clock a = record { 0 = cond (eqb (k .rule .kind) timeToken) (farthest + a - clock / k .period) (k .offset .0) }
 
--- a check's outcome: the success with step and d, 8106, used or wrong
+-- a check's outcome: the success with step and d, used or wrong
 abbrev pub judgedBy : Call → Refusal → Refusal → Track → ℕ → Outcome → Answer
 judgedBy call used wrong k clock (Outcome.Accepted a) = Answer.Success call (Content.Checked a (offsetWith k clock (a .0)))
-judgedBy call used wrong k clock Outcome.TooFar = Answer.Refused Refusal.TooFar
 judgedBy call used wrong k clock Outcome.Used = Answer.Refused used
 judgedBy call used wrong k clock Outcome.Wrong = Answer.Refused wrong
 

@@ -211,7 +211,6 @@ module _ (l : Loaded) (x y : Reading) (next : ℕ) (d : Offset) (used clock : �
       outcome-agrees : (o : Outcome) → FreshIfAccepted next o → errs (usedRefusal call) ≡ true → errs (wrongRefusal call) ≡ true
           → Alike (judging call here clock o) (judgedBy call (usedRefusal call) (wrongRefusal call) (here .track) clock o)
       outcome-agrees (Outcome.Accepted a) h p q = accepted-agrees (usedRefusal call) (wrongRefusal call) a h
-      outcome-agrees Outcome.TooFar h p q = still-agrees Refusal.TooFar refl refl
       outcome-agrees Outcome.Used h p q = failed-agrees (usedRefusal call) p
       outcome-agrees Outcome.Wrong h p q = failed-agrees (wrongRefusal call) q
 

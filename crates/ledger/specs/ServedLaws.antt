@@ -29,7 +29,6 @@ use Rattle.ledger.specs.RangeLaws.{leaves-itself, leaves-next, waited-le
 -- an accepted step is below the end of all candidates, and sets d at most 600 either way
 abbrev Fits : Track → ℕ → Outcome → Type 0
 Fits k clock (Outcome.Accepted a) = (a .0 < beyond k clock) × (k .rule .kind ≡ timeToken → distance (a .0) (stepAt clock (k .period)) ≤ farthest)
-Fits k clock Outcome.TooFar = Unit {0}
 Fits k clock Outcome.Used = Unit {0}
 Fits k clock Outcome.Wrong = Unit {0}
 
@@ -41,7 +40,6 @@ module _ (k : Track) (clock : ℕ) (size : Size) where
       told (Outcome.Accepted a) e =
           let c = single-accepts-candidate k clock size matches e in
           (candidate-bounded k clock size (a .0) c, candidate-near k clock size (a .0) c)
-      told Outcome.TooFar e = tt
       told Outcome.Used e = tt
       told Outcome.Wrong e = tt
 
@@ -52,7 +50,6 @@ module _ (k : Track) (clock : ℕ) (size : Size) where
       told (Outcome.Accepted a) e =
           let c = pair-accepts-candidate k clock size first second e in
           (candidate-bounded k clock size (a .0) c, candidate-near k clock size (a .0) c)
-      told Outcome.TooFar e = tt
       told Outcome.Used e = tt
       told Outcome.Wrong e = tt
 
@@ -60,7 +57,6 @@ module _ (call : Call) (clock : ℕ) (h : clock < 2 ^ 40) where
   module _ (r : Row) (l : Live r) where
     judging-leaves : (o : Outcome) → Fits (r .track) clock o → Leaves r (judging call r clock o .row)
     judging-leaves (Outcome.Accepted a) fits = accepted-leaves r l clock (a .0) h (fits .0) (fits .1) call
-    judging-leaves Outcome.TooFar fits = leaves-itself r l
     judging-leaves Outcome.Used fits = failed-leaves r l call clock h
     judging-leaves Outcome.Wrong fits = failed-leaves r l call clock h
 

@@ -36,7 +36,6 @@ refusalNumber Refusal.Suspended = 0x8405
 refusalNumber Refusal.Inactive = 0x8406
 refusalNumber Refusal.Void = 0x8407
 refusalNumber Refusal.Expired = 0x8408
-refusalNumber Refusal.TooFar = 0x8106
 refusalNumber Refusal.UsedAtLogin = 0x8004
 refusalNumber Refusal.Used = 0x8104
 refusalNumber Refusal.WrongAtLogin = 0x8002

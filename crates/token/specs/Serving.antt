@@ -22,11 +22,10 @@ use Rattle.token.specs.States.{waited, moved, offsetAfter, accepted, fai
 abbrev pub refusing : Refusal → Row → Served
 refusing refusal r = record { answer = Answer.Refused refusal; row = r }
 
--- the check's outcome decides: success, 8106, used, wrong
+-- the check's outcome decides: success, used, wrong
 abbrev pub judging : Call → Row → ℕ → Outcome → Served
 judging call r clock (Outcome.Accepted a) =
     record { answer = Answer.Success call (Content.Checked a (offsetAfter (r .track) clock (a .0))); row = accepted call r clock (a .0) }
-judging call r clock Outcome.TooFar = refusing Refusal.TooFar r
 judging call r clock Outcome.Used = refusing (usedRefusal call) (failed call r clock)
 judging call r clock Outcome.Wrong = refusing (wrongRefusal call) (failed call r clock)
 

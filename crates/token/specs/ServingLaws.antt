@@ -47,7 +47,6 @@ pub checked-near : (k : Track) (clock : ℕ) (size : Size) (key challenge presen
     → Sound k clock → o ≡ checkOf k clock size key challenge presented following → NearIfAccepted k clock o
 checked-near k clock size key challenge presented following (Outcome.Accepted a) good e =
     candidate-accepted k clock size (a .0) good (check-accepts-candidate k clock size key challenge presented following (sym e))
-checked-near k clock size key challenge presented following Outcome.TooFar good e = tt
 checked-near k clock size key challenge presented following Outcome.Used good e = tt
 checked-near k clock size key challenge presented following Outcome.Wrong good e = tt
 

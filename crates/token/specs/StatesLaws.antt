@@ -24,7 +24,6 @@ pub record Near (k : Track) (clock a : ℕ) : Type 0 where
 -- a step that a check has accepted is such
 abbrev pub NearIfAccepted : Track → ℕ → Outcome → Type 0
 NearIfAccepted k clock (Outcome.Accepted a) = Near k clock (a .0)
-NearIfAccepted k clock Outcome.TooFar = Unit {0}
 NearIfAccepted k clock Outcome.Used = Unit {0}
 NearIfAccepted k clock Outcome.Wrong = Unit {0}
 

@@ -30,7 +30,6 @@ pub enum Refusal {
     Inactive,
     Void,
     Expired,
-    TooFar,
     UsedAtLogin,
     Used,
     WrongAtLogin,

@@ -39,7 +39,6 @@ fn refusal_number(refusal: Refusal) -> u16
         Refusal::Inactive => 0x8406,
         Refusal::Void => 0x8407,
         Refusal::Expired => 0x8408,
-        Refusal::TooFar => 0x8106,
         Refusal::UsedAtLogin => 0x8004,
         Refusal::Used => 0x8104,
         Refusal::WrongAtLogin => 0x8002,

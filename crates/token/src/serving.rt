@@ -57,7 +57,6 @@ fn judging(call: Call, row: Row, clock: Seconds, outcome: Outcome) -> Served
                 row: accepted(call, row, clock, a),
             }
         }
-        Outcome::TooFar => refusing(Refusal::TooFar, row),
         Outcome::Used => refusing(used_refusal(call), failed(call, row, clock)),
         Outcome::Wrong => refusing(wrong_refusal(call), failed(call, row, clock)),
     }

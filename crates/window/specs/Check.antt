@@ -4,7 +4,7 @@ use mathlib.Core.Bool.{Bool, cond, _&&_}
 use mathlib.Core.Option.{Option, none, some}
 use lib.Dec.{leb, ltb}
 use Rattle.window.specs.declared.Outcome.{Outcome}
-use Rattle.window.specs.declared.Outcome.the-variants.{Accepted, TooFar, Used, Wrong}
+use Rattle.window.specs.declared.Outcome.the-variants.{Accepted, Used, Wrong}
 
 abbrev pub orElse : Option ℕ → Option ℕ → Option ℕ
 orElse none b = b
@@ -39,13 +39,8 @@ singleHit candidate matches s = candidate s && matches s
 abbrev pub pairHit : (ℕ → Bool) → (ℕ → Bool) → (ℕ → Bool) → ℕ → Bool
 pairHit candidate first second s = (candidate s && candidate (s + 1)) && (first s && second (s + 1))
 
--- the step is accepted, unless the match would set d past 600 either way
-abbrev pub accepting : (ℕ → Bool) → ℕ → Outcome
-accepting tooFar a = cond (tooFar a) TooFar (Accepted (record { 0 = a }))
-
 -- the accepted step stands `ahead` of the hit: it is the hit itself, and s + 1 for a pair
-abbrev pub settled : (ℕ → Bool) → ℕ → Outcome → Outcome
-settled tooFar ahead (Accepted s) = accepting tooFar (s .0 + ahead)
-settled tooFar ahead TooFar = TooFar
-settled tooFar ahead Used = Used
-settled tooFar ahead Wrong = Wrong
+abbrev pub settled : ℕ → Outcome → Outcome
+settled ahead (Accepted s) = Accepted (record { 0 = s .0 + ahead })
+settled ahead Used = Used
+settled ahead Wrong = Wrong

@@ -13,16 +13,16 @@ use Rattle.window.specs.declared.Size.{Size}
 use Rattle.window.specs.declared.Step.{Step}
 use Rattle.window.specs.declared.Track.{Track}
 use Rattle.window.specs.declared.Outcome.{Outcome}
+use Rattle.window.specs.declared.Outcome.the-variants.{Accepted}
 use Rattle.window.specs.declared.search.Found.{Found}
 use Rattle.window.specs.declared.search.Found.the-variants.{At, Nowhere}
 use Rattle.window.specs.declared.goal.Goal.{Goal}
 use Rattle.window.specs.Window.{Sound}
 use Rattle.window.specs.WindowLaws.{firstStep, endStep}
-use Rattle.window.specs.Check.{accepting}
 use Rattle.window.specs.CheckLaws.{sweep}
 use Rattle.window.specs.PasswordAtLaws.{aheadOf, ahead-le, matchesAt, countsRight}
 use Rattle.window.specs.SearchLaws.{foundOf, usedOrWrong, sweep-end}
-use Rattle.window.specs.TokenCheck.{tooFar, checkOf}
+use Rattle.window.specs.TokenCheck.{checkOf}
 use Rattle.window.specs.TokenCheckLaws.{first-fits, end-small, check-accepts, check-rest}
 use Rattle.window.specs.Lanes.{goalOf, aheadBy, cutAt, laneTest}
 use Rattle.window.specs.LanesLaws.{lanes-search}
@@ -71,9 +71,9 @@ module _ (k : Track) (clock : ℕ) (size : Size) (key presented following : List
   by-password : (from n : ℕ) {f : Found} → f ≡ foundOf (sweep (laneTest goal (cutAt (k .rule) key)) from n) → f ≡ foundOf (sweep (matchesAt (k .rule) key [] presented following) from n)
   by-password from n e = lanes-search (k .rule) key presented following from n counts eg e
 
-  pub lanes-accepts : {f : Found} {s : Step} {r : Outcome} → f ≡ foundOf (sweep (laneTest goal (cutAt (k .rule) key)) fresh (end - fresh)) → f ≡ At s
-      → r ≡ accepting (tooFar k clock) (s .0) → r ≡ checkOf k clock size key [] presented following
-  lanes-accepts e i p = check-accepts k clock size key [] presented following h a b m (by-password fresh (end - fresh) e) i p
+  pub lanes-accepts : {f : Found} {s : Step} → f ≡ foundOf (sweep (laneTest goal (cutAt (k .rule) key)) fresh (end - fresh)) → f ≡ At s
+      → Accepted s ≡ checkOf k clock size key [] presented following
+  lanes-accepts e i = check-accepts k clock size key [] presented following h a b m (by-password fresh (end - fresh) e) i
 
   module _ {g : Found} {r : Outcome} (u : g ≡ foundOf (sweep (laneTest goal (cutAt (k .rule) key)) (first + ahead) (used - (first + ahead)))) (p : r ≡ usedOrWrong g) where
     pub lanes-rest : {f : Found} → f ≡ foundOf (sweep (laneTest goal (cutAt (k .rule) key)) fresh (end - fresh)) → f ≡ Nowhere → r ≡ checkOf k clock size key [] presented following

@@ -6,20 +6,20 @@ use mathlib.Core.Logic.{⊎-elim}
 use mathlib.Core.Option.{Option, none, some}
 use native.Mathlib.Nat.{add-zero, le-trans}
 use native.Mathlib.Omega.{arith}
-use borrow.Author.Tests.{eq-eqb, eqb-true, leb-true, le-ltb, lt-ltb, le-leb, ltb-true}
-use lib.Dec.{eqb, leb, ltb}
+use borrow.Author.Tests.{eq-eqb, leb-true, lt-ltb, le-leb, ltb-true}
+use lib.Dec.{leb, ltb}
 use Rattle.words.specs.Tables.{and-left, and-right}
 use Rattle.words.specs.ListsLaws.{by-test}
 use Rattle.window.specs.declared.Size.{Size}
 use Rattle.window.specs.declared.Step.{Step}
 use Rattle.window.specs.declared.Track.{Track}
 use Rattle.window.specs.declared.Outcome.{Outcome}
-use Rattle.window.specs.declared.Outcome.the-variants.{Accepted, TooFar, Used, Wrong}
+use Rattle.window.specs.declared.Outcome.the-variants.{Accepted, Used, Wrong}
 use Rattle.window.specs.Window.{timeToken, stepAt, distance, timeWidth, farthest, timeCandidate, candidate, beyond}
 use Rattle.window.specs.WindowLaws.{firstStep, endStep, candidates-are-range, end-below, and-both}
 use Rattle.window.specs.Check.{smallest, freshHit, usedHit, judged, checked, singleHit, pairHit, settled}
 use Rattle.window.specs.CheckLaws.{NoneBelow, Found, found, missing, smallest-found, clash, order}
-use Rattle.window.specs.TokenCheck.{tooFar, singleCheck, pairCheck}
+use Rattle.window.specs.TokenCheck.{singleCheck, pairCheck}
 
 -- no number passes the test
 abbrev pub Never : (ℕ → Bool) → Type 0
@@ -39,13 +39,12 @@ first-unique test {r} {s} p q =
 -- the step of an accepting outcome
 abbrev at : Outcome → ℕ
 at (Accepted s) = s .0
-at TooFar = 0
 at Used = 0
 at Wrong = 0
 
--- ---- over any hits below a bound, none of which would set d past 600
+-- ---- over any hits below a bound
 
-module _ (far hit : ℕ → Bool) (ahead next n : ℕ) (bounded : (r : ℕ) → hit r ≡ true → r < n) (near : (s : ℕ) → hit s ≡ true → far (s + ahead) ≡ false) where
+module _ (hit : ℕ → Bool) (ahead next n : ℕ) (bounded : (r : ℕ) → hit r ≡ true → r < n) where
   -- an outcome with its reason
   data Reason : Outcome → Type 0 where
     fresh : {s : ℕ} → First (freshHit hit next) s → Reason (Accepted (record { 0 = s + ahead }))
@@ -63,21 +62,19 @@ module _ (far hit : ℕ → Bool) (ahead next n : ℕ) (bounded : (r : ℕ) → 
       (λ (l : next ≤ r). clash (and-both (le-leb next r l) t) (f r (bounded r t))) (order r next))
       (λ t. t)
 
-  reason : Reason (settled far ahead (checked hit next n))
+  reason : Reason (settled ahead (checked hit next n))
   unfolding checked
   reason = told (smallest (freshHit hit next) n) (smallest-found (freshHit hit next) n) (smallest (usedHit hit next) n) (smallest-found (usedHit hit next) n)
     where
-      told : (o : Option ℕ) → Found (freshHit hit next) n o → (u : Option ℕ) → Found (usedHit hit next) n u → Reason (settled far ahead (judged o u))
-      told (some s) (found l) u f =
-          let h : First (freshHit hit next) s = record { passes = l .passes; before = l .before } in
-          rw (near s (and-right (leb next s) (hit s) (l .passes))) (fresh h)
+      told : (o : Option ℕ) → Found (freshHit hit next) n o → (u : Option ℕ) → Found (usedHit hit next) n u → Reason (settled ahead (judged o u))
+      told (some s) (found l) u f = fresh (record { passes = l .passes; before = l .before })
       told none (missing h) (some s) (found l) = used s (none-fresh h) (l .passes)
       told none (missing h) none (missing i) = never (none-hit h i)
 
   -- accepted: the step is the smallest fresh hit, or the one ahead of it
-  pub accepted-exactly : ((a : Step) → settled far ahead (checked hit next n) ≡ Accepted a → (s : ℕ) × ((a .0 ≡ s + ahead) × First (freshHit hit next) s))
-      × ((s : ℕ) → First (freshHit hit next) s → settled far ahead (checked hit next n) ≡ Accepted (record { 0 = s + ahead }))
-  accepted-exactly = (λ a e. there (settled far ahead (checked hit next n)) reason a e, λ s f. back (settled far ahead (checked hit next n)) reason s f)
+  pub accepted-exactly : ((a : Step) → settled ahead (checked hit next n) ≡ Accepted a → (s : ℕ) × ((a .0 ≡ s + ahead) × First (freshHit hit next) s))
+      × ((s : ℕ) → First (freshHit hit next) s → settled ahead (checked hit next n) ≡ Accepted (record { 0 = s + ahead }))
+  accepted-exactly = (λ a e. there (settled ahead (checked hit next n)) reason a e, λ s f. back (settled ahead (checked hit next n)) reason s f)
     where
       there : (o : Outcome) → Reason o → (a : Step) → o ≡ Accepted a → (s : ℕ) × ((a .0 ≡ s + ahead) × First (freshHit hit next) s)
       there (Accepted x) (fresh {s = s} f) a e = (s, (sym (ap at e), f))
@@ -90,9 +87,9 @@ module _ (far hit : ℕ → Bool) (ahead next n : ℕ) (bounded : (r : ℕ) → 
       back Wrong (never h) s g = clash (and-right (leb next s) (hit s) (g .passes)) (h s)
 
   -- used: no fresh step hits, and one that is not fresh does
-  pub used-exactly : (settled far ahead (checked hit next n) ≡ Used → Never (freshHit hit next) × ((s : ℕ) × (usedHit hit next s ≡ true)))
-      × (Never (freshHit hit next) → (s : ℕ) → usedHit hit next s ≡ true → settled far ahead (checked hit next n) ≡ Used)
-  used-exactly = (λ e. there (settled far ahead (checked hit next n)) reason e, λ h s u. back (settled far ahead (checked hit next n)) reason h s u)
+  pub used-exactly : (settled ahead (checked hit next n) ≡ Used → Never (freshHit hit next) × ((s : ℕ) × (usedHit hit next s ≡ true)))
+      × (Never (freshHit hit next) → (s : ℕ) → usedHit hit next s ≡ true → settled ahead (checked hit next n) ≡ Used)
+  used-exactly = (λ e. there (settled ahead (checked hit next n)) reason e, λ h s u. back (settled ahead (checked hit next n)) reason h s u)
     where
       there : (o : Outcome) → Reason o → o ≡ Used → Never (freshHit hit next) × ((s : ℕ) × (usedHit hit next s ≡ true))
       there (Accepted x) (fresh f) e = let z : _≡_ {A = ℕ} 0 1 = cc in absurd (omega arith)
@@ -105,8 +102,8 @@ module _ (far hit : ℕ → Bool) (ahead next n : ℕ) (bounded : (r : ℕ) → 
       back Wrong (never h) i s v = clash (and-right (ltb s next) (hit s) v) (h s)
 
   -- wrong: no step hits
-  pub wrong-exactly : (settled far ahead (checked hit next n) ≡ Wrong → Never hit) × (Never hit → settled far ahead (checked hit next n) ≡ Wrong)
-  wrong-exactly = (λ e. there (settled far ahead (checked hit next n)) reason e, λ h. back (settled far ahead (checked hit next n)) reason h)
+  pub wrong-exactly : (settled ahead (checked hit next n) ≡ Wrong → Never hit) × (Never hit → settled ahead (checked hit next n) ≡ Wrong)
+  wrong-exactly = (λ e. there (settled ahead (checked hit next n)) reason e, λ h. back (settled ahead (checked hit next n)) reason h)
     where
       there : (o : Outcome) → Reason o → o ≡ Wrong → Never hit
       there (Accepted x) (fresh f) e = let z : _≡_ {A = ℕ} 0 1 = cc in absurd (omega arith)
@@ -117,15 +114,6 @@ module _ (far hit : ℕ → Bool) (ahead next n : ℕ) (bounded : (r : ℕ) → 
       back (Accepted x) (fresh {s = s} f) h = clash (and-right (leb next s) (hit s) (f .passes)) (h s)
       back Used (used s i u) h = clash (and-right (ltb s next) (hit s) u) (h s)
       back Wrong (never i) h = refl
-
-  -- no match would set d past 600 either way
-  pub never-too-far : settled far ahead (checked hit next n) ≡ TooFar → ⊥
-  never-too-far e = otherwise (settled far ahead (checked hit next n)) reason e
-    where
-      otherwise : (o : Outcome) → Reason o → o ≡ TooFar → ⊥
-      otherwise (Accepted x) (fresh f) e = let z : _≡_ {A = ℕ} 0 1 = cc in absurd (omega arith)
-      otherwise Used (used s h u) e = let z : _≡_ {A = ℕ} 0 1 = cc in absurd (omega arith)
-      otherwise Wrong (never h) e = let z : _≡_ {A = ℕ} 0 1 = cc in absurd (omega arith)
 
 -- ---- a token's candidates
 
@@ -143,26 +131,15 @@ module _ (k : Track) (clock : ℕ) (size : Size) where
       leb-true (distance s (stepAt clock (k .period))) farthest
       (and-right (leb (distance (s + farthest) (stepAt clock (k .period) + k .offset .0)) (timeWidth size)) (leb (distance s (stepAt clock (k .period))) farthest) c)
 
-  -- so none would set d past 600 either way
-  candidate-not-far : (s : ℕ) → candidate k clock size s ≡ true → tooFar k clock s ≡ false
-  unfolding tooFar
-  candidate-not-far s t =
-      by-test (eqb (k .rule .kind) timeToken)
-      (λ e. rw e (le-ltb farthest (distance s (stepAt clock (k .period))) (candidate-near s t (eqb-true (k .rule .kind) timeToken e))))
-      (λ f. rw f)
-
   module _ (matches : ℕ → Bool) where
     single-bounded : (s : ℕ) → singleHit (candidate k clock size) matches s ≡ true → s < beyond k clock
     single-bounded s t = candidate-bounded s (and-left (candidate k clock size s) (matches s) t)
-
-    single-near : (s : ℕ) → singleHit (candidate k clock size) matches s ≡ true → tooFar k clock (s + 0) ≡ false
-    single-near s t = rw (add-zero s) (candidate-not-far s (and-left (candidate k clock size s) (matches s) t))
 
     pub single-accepted-exactly : ((a : Step) → singleCheck k clock size matches ≡ Accepted a → First (freshHit (singleHit (candidate k clock size) matches) (k .next .0)) (a .0))
         × ((s : ℕ) → First (freshHit (singleHit (candidate k clock size) matches) (k .next .0)) s → singleCheck k clock size matches ≡ Accepted (record { 0 = s }))
     unfolding singleCheck
     single-accepted-exactly =
-        let law = accepted-exactly (tooFar k clock) (singleHit (candidate k clock size) matches) 0 (k .next .0) (beyond k clock) single-bounded single-near in
+        let law = accepted-exactly (singleHit (candidate k clock size) matches) 0 (k .next .0) (beyond k clock) single-bounded in
         (λ a e. let l = law .0 a e in let z : a .0 ≡ l .0 = l .1 .0 ∙ add-zero (l .0) in rw z (l .1 .1), λ s f. law .1 s f ∙ rw (add-zero s))
 
     pub single-accepts-candidate : {a : Step} → singleCheck k clock size matches ≡ Accepted a → candidate k clock size (a .0) ≡ true
@@ -173,15 +150,11 @@ module _ (k : Track) (clock : ℕ) (size : Size) where
     pub single-used-exactly : (singleCheck k clock size matches ≡ Used → Never (freshHit (singleHit (candidate k clock size) matches) (k .next .0)) × ((s : ℕ) × (usedHit (singleHit (candidate k clock size) matches) (k .next .0) s ≡ true)))
         × (Never (freshHit (singleHit (candidate k clock size) matches) (k .next .0)) → (s : ℕ) → usedHit (singleHit (candidate k clock size) matches) (k .next .0) s ≡ true → singleCheck k clock size matches ≡ Used)
     unfolding singleCheck
-    single-used-exactly = used-exactly (tooFar k clock) (singleHit (candidate k clock size) matches) 0 (k .next .0) (beyond k clock) single-bounded single-near
+    single-used-exactly = used-exactly (singleHit (candidate k clock size) matches) 0 (k .next .0) (beyond k clock) single-bounded
 
     pub single-wrong-exactly : (singleCheck k clock size matches ≡ Wrong → Never (singleHit (candidate k clock size) matches)) × (Never (singleHit (candidate k clock size) matches) → singleCheck k clock size matches ≡ Wrong)
     unfolding singleCheck
-    single-wrong-exactly = wrong-exactly (tooFar k clock) (singleHit (candidate k clock size) matches) 0 (k .next .0) (beyond k clock) single-bounded single-near
-
-    pub single-never-too-far : singleCheck k clock size matches ≡ TooFar → ⊥
-    unfolding singleCheck
-    single-never-too-far = never-too-far (tooFar k clock) (singleHit (candidate k clock size) matches) 0 (k .next .0) (beyond k clock) single-bounded single-near
+    single-wrong-exactly = wrong-exactly (singleHit (candidate k clock size) matches) 0 (k .next .0) (beyond k clock) single-bounded
 
   module _ (first second : ℕ → Bool) where
     both-candidates : (s : ℕ) → pairHit (candidate k clock size) first second s ≡ true → (candidate k clock size s ≡ true) × (candidate k clock size (s + 1) ≡ true)
@@ -192,14 +165,11 @@ module _ (k : Track) (clock : ℕ) (size : Size) where
     pair-bounded : (s : ℕ) → pairHit (candidate k clock size) first second s ≡ true → s < beyond k clock
     pair-bounded s t = candidate-bounded s (both-candidates s t .0)
 
-    pair-near : (s : ℕ) → pairHit (candidate k clock size) first second s ≡ true → tooFar k clock (s + 1) ≡ false
-    pair-near s t = candidate-not-far (s + 1) (both-candidates s t .1)
-
     -- the accepted step of a pair is the one after the smallest fresh step at which the pair matches
     pub pair-accepted-exactly : ((a : Step) → pairCheck k clock size first second ≡ Accepted a → (s : ℕ) × ((a .0 ≡ s + 1) × First (freshHit (pairHit (candidate k clock size) first second) (k .next .0)) s))
         × ((s : ℕ) → First (freshHit (pairHit (candidate k clock size) first second) (k .next .0)) s → pairCheck k clock size first second ≡ Accepted (record { 0 = s + 1 }))
     unfolding pairCheck
-    pair-accepted-exactly = accepted-exactly (tooFar k clock) (pairHit (candidate k clock size) first second) 1 (k .next .0) (beyond k clock) pair-bounded pair-near
+    pair-accepted-exactly = accepted-exactly (pairHit (candidate k clock size) first second) 1 (k .next .0) (beyond k clock) pair-bounded
 
     pub pair-accepts-candidate : {a : Step} → pairCheck k clock size first second ≡ Accepted a → candidate k clock size (a .0) ≡ true
     pair-accepts-candidate {a} e =
@@ -211,12 +181,8 @@ module _ (k : Track) (clock : ℕ) (size : Size) where
     pub pair-used-exactly : (pairCheck k clock size first second ≡ Used → Never (freshHit (pairHit (candidate k clock size) first second) (k .next .0)) × ((s : ℕ) × (usedHit (pairHit (candidate k clock size) first second) (k .next .0) s ≡ true)))
         × (Never (freshHit (pairHit (candidate k clock size) first second) (k .next .0)) → (s : ℕ) → usedHit (pairHit (candidate k clock size) first second) (k .next .0) s ≡ true → pairCheck k clock size first second ≡ Used)
     unfolding pairCheck
-    pair-used-exactly = used-exactly (tooFar k clock) (pairHit (candidate k clock size) first second) 1 (k .next .0) (beyond k clock) pair-bounded pair-near
+    pair-used-exactly = used-exactly (pairHit (candidate k clock size) first second) 1 (k .next .0) (beyond k clock) pair-bounded
 
     pub pair-wrong-exactly : (pairCheck k clock size first second ≡ Wrong → Never (pairHit (candidate k clock size) first second)) × (Never (pairHit (candidate k clock size) first second) → pairCheck k clock size first second ≡ Wrong)
     unfolding pairCheck
-    pair-wrong-exactly = wrong-exactly (tooFar k clock) (pairHit (candidate k clock size) first second) 1 (k .next .0) (beyond k clock) pair-bounded pair-near
-
-    pub pair-never-too-far : pairCheck k clock size first second ≡ TooFar → ⊥
-    unfolding pairCheck
-    pair-never-too-far = never-too-far (tooFar k clock) (pairHit (candidate k clock size) first second) 1 (k .next .0) (beyond k clock) pair-bounded pair-near
+    pair-wrong-exactly = wrong-exactly (pairHit (candidate k clock size) first second) 1 (k .next .0) (beyond k clock) pair-bounded

@@ -11,11 +11,11 @@ use lib.Dec.{leb, ltb}
 use Rattle.words.specs.Tables.{and-left, and-right}
 use Rattle.words.specs.ListsLaws.{and-false, by-test}
 use Rattle.window.specs.declared.Outcome.{Outcome}
-use Rattle.window.specs.declared.Outcome.the-variants.{Used, Wrong}
+use Rattle.window.specs.declared.Outcome.the-variants.{Accepted, Used, Wrong}
 use Rattle.window.specs.declared.search.Found.{Found}
 use Rattle.window.specs.declared.search.Found.the-variants.{At, Nowhere}
 use Rattle.window.specs.WindowLaws.{agree, and-both}
-use Rattle.window.specs.Check.{smallest, freshHit, usedHit, judged, checked, accepting, settled}
+use Rattle.window.specs.Check.{smallest, freshHit, usedHit, judged, checked, settled}
 use Rattle.window.specs.CheckLaws.{NoneBelow, order, sweep, smallest-is-sweep}
 
 abbrev pub foundOf : Option ℕ → Found
@@ -142,23 +142,23 @@ sweep-shifted test matches ahead h from (suc k) =
     by-test (matches from) (λ t. rw (h from, t)) (λ t. rw (h from, t, e) i)
 
 -- the outcome of a search of the fresh steps and one of the used
-abbrev pub judge : (ℕ → Bool) → Found → Found → Outcome
-judge tooFar (At a) used = accepting tooFar (a .0)
-judge tooFar Nowhere (At a) = Used
-judge tooFar Nowhere Nowhere = Wrong
+abbrev pub judge : Found → Found → Outcome
+judge (At a) used = Accepted a
+judge Nowhere (At a) = Used
+judge Nowhere Nowhere = Wrong
 
 -- a search of the used steps, where no fresh one matched
 abbrev pub usedOrWrong : Found → Outcome
 usedOrWrong (At a) = Used
 usedOrWrong Nowhere = Wrong
 
-judged-found : (tooFar : ℕ → Bool) (ahead : ℕ) (fresh used : Option ℕ)
-    → settled tooFar ahead (judged fresh used) ≡ judge tooFar (foundOf (shifted ahead fresh)) (foundOf (shifted ahead used))
-judged-found tooFar ahead (some s) used = refl
-judged-found tooFar ahead none (some s) = refl
-judged-found tooFar ahead none none = refl
+judged-found : (ahead : ℕ) (fresh used : Option ℕ)
+    → settled ahead (judged fresh used) ≡ judge (foundOf (shifted ahead fresh)) (foundOf (shifted ahead used))
+judged-found ahead (some s) used = refl
+judged-found ahead none (some s) = refl
+judged-found ahead none none = refl
 
-module _ (tooFar hit matches test : ℕ → Bool) (first end next n ahead : ℕ) (room : end - ahead ≤ n)
+module _ (hit matches test : ℕ → Bool) (first end next n ahead : ℕ) (room : end - ahead ≤ n)
     (within : (s : ℕ) → hit s ≡ (leb first s && ltb s (end - ahead)) && matches s) (ahead-of : (s : ℕ) → test (s + ahead) ≡ matches s) where
   fresh-shifted : shifted ahead (sweep matches (max first next) (end - ahead - max first next)) ≡ sweep test (max (first + ahead) (next + ahead)) (end - max (first + ahead) (next + ahead))
   fresh-shifted =
@@ -171,9 +171,9 @@ module _ (tooFar hit matches test : ℕ → Bool) (first end next n ahead : ℕ)
       let e : min end (next + ahead) - (first + ahead) ≡ min (end - ahead) next - first = omega arith in
       rw e (sym (sweep-shifted test matches ahead ahead-of first (min (end - ahead) next - first)))
 
-  pub check-searched : settled tooFar ahead (checked hit next n)
-      ≡ judge tooFar (foundOf (sweep test (max (first + ahead) (next + ahead)) (end - max (first + ahead) (next + ahead))))
+  pub check-searched : settled ahead (checked hit next n)
+      ≡ judge (foundOf (sweep test (max (first + ahead) (next + ahead)) (end - max (first + ahead) (next + ahead))))
       (foundOf (sweep test (first + ahead) (min end (next + ahead) - (first + ahead))))
   check-searched =
       rw (range-searched hit matches first (end - ahead) next n room within, ← fresh-shifted, ← used-shifted)
-      (judged-found tooFar ahead (sweep matches (max first next) (end - ahead - max first next)) (sweep matches first (min (end - ahead) next - first)))
+      (judged-found ahead (sweep matches (max first next) (end - ahead - max first next)) (sweep matches first (min (end - ahead) next - first)))

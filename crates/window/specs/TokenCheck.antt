@@ -1,24 +1,19 @@
 -- The checks of a token (document 01, Part 3), over any predicate "step s has this password".
 use Prim.Native.Nat.{ℕ}
-use mathlib.Core.Bool.{Bool, _&&_}
+use mathlib.Core.Bool.{Bool}
 use mathlib.Core.List.{List, [], _∷_}
-use lib.Dec.{eqb, ltb}
 use Rattle.window.specs.declared.Size.{Size}
 use Rattle.window.specs.declared.Track.{Track}
 use Rattle.window.specs.declared.Outcome.{Outcome}
-use Rattle.window.specs.Window.{timeToken, stepAt, distance, farthest, candidate, beyond}
+use Rattle.window.specs.Window.{candidate, beyond}
 use Rattle.window.specs.Check.{checked, singleHit, pairHit, settled}
 use Rattle.window.specs.PasswordAt.{hasPassword}
 
--- accepting step a would set d = a - T past 600 either way (8106)
-unfoldable pub tooFar : Track → ℕ → ℕ → Bool
-tooFar k clock a = eqb (k .rule .kind) timeToken && ltb farthest (distance a (stepAt clock (k .period)))
-
 unfoldable pub singleCheck : Track → ℕ → Size → (ℕ → Bool) → Outcome
-singleCheck k clock size matches = settled (tooFar k clock) 0 (checked (singleHit (candidate k clock size) matches) (k .next .0) (beyond k clock))
+singleCheck k clock size matches = settled 0 (checked (singleHit (candidate k clock size) matches) (k .next .0) (beyond k clock))
 
 unfoldable pub pairCheck : Track → ℕ → Size → (ℕ → Bool) → (ℕ → Bool) → Outcome
-pairCheck k clock size first second = settled (tooFar k clock) 1 (checked (pairHit (candidate k clock size) first second) (k .next .0) (beyond k clock))
+pairCheck k clock size first second = settled 1 (checked (pairHit (candidate k clock size) first second) (k .next .0) (beyond k clock))
 
 -- one presented password is checked alone, with Q if the call has one; two are checked as a pair, which has no Q; an empty second one is none
 unfoldable pub checkOf : Track → ℕ → Size → List ℕ → List ℕ → List ℕ → List ℕ → Outcome

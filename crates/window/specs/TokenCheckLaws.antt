@@ -19,12 +19,12 @@ use Rattle.window.specs.declared.search.Found.{Found}
 use Rattle.window.specs.declared.search.Found.the-variants.{At, Nowhere}
 use Rattle.window.specs.Window.{timeToken, stepAt, farthest, timeWidth, candidate, beyond, Sound}
 use Rattle.window.specs.WindowLaws.{timeFirst, eventFirst, firstStep, endStep, candidates-are-range, end-below}
-use Rattle.window.specs.Check.{singleHit, pairHit, accepting}
+use Rattle.window.specs.Check.{singleHit, pairHit}
 use Rattle.window.specs.CheckLaws.{sweep}
 use Rattle.window.specs.Meaning.{single-accepts-candidate, single-wrong-exactly, pair-accepts-candidate, pair-wrong-exactly}
 use Rattle.window.specs.PasswordAt.{hasPassword}
 use Rattle.window.specs.PasswordAtLaws.{EndOk, aheadOf, matchesAt, countsRight, other-length}
-use Rattle.window.specs.TokenCheck.{tooFar, singleCheck, pairCheck, checkOf}
+use Rattle.window.specs.TokenCheck.{singleCheck, pairCheck, checkOf}
 use Rattle.window.specs.SearchLaws.{foundOf, both-in-range, judge, usedOrWrong, check-searched}
 
 -- an event token's candidates are counts of 32 bits
@@ -58,7 +58,7 @@ module _ (k : Track) (clock : ℕ) (size : Size) (key challenge presented : List
   -- what the fresh and the used steps of the range give
   abbrev searches : (ℕ → Bool) → ℕ → Outcome
   searches test ahead =
-      judge (tooFar k clock)
+      judge
       (foundOf (sweep test (max (firstStep k clock size + ahead) (k .next .0 + ahead)) (endStep k clock size - max (firstStep k clock size + ahead) (k .next .0 + ahead))))
       (foundOf (sweep test (firstStep k clock size + ahead) (min (endStep k clock size) (k .next .0 + ahead) - (firstStep k clock size + ahead))))
 
@@ -67,12 +67,12 @@ module _ (k : Track) (clock : ℕ) (size : Size) (key challenge presented : List
   unfolding checkOf singleCheck pairCheck matchesAt
   token-searched [] =
       let room = end-below k clock size in
-      check-searched (tooFar k clock) (singleHit (candidate k clock size) (hasPassword (k .rule) key challenge presented)) (hasPassword (k .rule) key challenge presented)
+      check-searched (singleHit (candidate k clock size) (hasPassword (k .rule) key challenge presented)) (hasPassword (k .rule) key challenge presented)
       (matchesAt (k .rule) key challenge presented []) (firstStep k clock size) (endStep k clock size) (k .next .0) (beyond k clock) 0 (omega arith)
       (λ s. rw (sub-zero (endStep k clock size), candidates-are-range k clock size s)) (λ s. rw (add-zero s))
   token-searched (b ∷ following) =
       let room = end-below k clock size in
-      check-searched (tooFar k clock) (pairHit (candidate k clock size) (hasPassword (k .rule) key [] presented) (hasPassword (k .rule) key [] (b ∷ following)))
+      check-searched (pairHit (candidate k clock size) (hasPassword (k .rule) key [] presented) (hasPassword (k .rule) key [] (b ∷ following)))
       (λ s. hasPassword (k .rule) key [] presented s && hasPassword (k .rule) key [] (b ∷ following) (s + 1))
       (matchesAt (k .rule) key challenge presented (b ∷ following)) (firstStep k clock size) (endStep k clock size) (k .next .0) (beyond k clock) 1 (omega arith)
       (λ s. rw (candidates-are-range k clock size s, candidates-are-range k clock size (s + 1), both-in-range (firstStep k clock size) (endStep k clock size) s))
@@ -82,24 +82,24 @@ module _ (k : Track) (clock : ℕ) (size : Size) (key challenge presented follow
     (h : ahead ≡ aheadOf following) (a : first ≡ firstStep k clock size) (b : end ≡ endStep k clock size) (m : fresh ≡ max (first + ahead) (k .next .0 + ahead))
     (e : f ≡ foundOf (sweep (matchesAt (k .rule) key challenge presented following) fresh (end - fresh))) where
   judged-check : checkOf k clock size key challenge presented following
-      ≡ judge (tooFar k clock) f (foundOf (sweep (matchesAt (k .rule) key challenge presented following) (first + ahead) (min end (k .next .0 + ahead) - (first + ahead))))
+      ≡ judge f (foundOf (sweep (matchesAt (k .rule) key challenge presented following) (first + ahead) (min end (k .next .0 + ahead) - (first + ahead))))
   judged-check = rw (e, m, b, a, h) (token-searched k clock size key challenge presented following)
 
-  pub check-accepts : {s : Step} {r : Outcome} → f ≡ At s → r ≡ accepting (tooFar k clock) (s .0) → r ≡ checkOf k clock size key challenge presented following
-  check-accepts {s} i p =
-      p ∙ sym (judged-check ∙ ap (λ (x : Found). judge (tooFar k clock) x (foundOf (sweep (matchesAt (k .rule) key challenge presented following) (first + ahead) (min end (k .next .0 + ahead) - (first + ahead))))) i)
+  pub check-accepts : {s : Step} → f ≡ At s → Accepted s ≡ checkOf k clock size key challenge presented following
+  check-accepts i =
+      sym (judged-check ∙ ap (λ (x : Found). judge x (foundOf (sweep (matchesAt (k .rule) key challenge presented following) (first + ahead) (min end (k .next .0 + ahead) - (first + ahead))))) i)
 
   module _ {used : ℕ} {g : Found} (i : f ≡ Nowhere) (n : used ≡ min end (k .next .0 + ahead))
       (u : g ≡ foundOf (sweep (matchesAt (k .rule) key challenge presented following) (first + ahead) (used - (first + ahead)))) where
-    judged-used : checkOf k clock size key challenge presented following ≡ judge (tooFar k clock) Nowhere g
+    judged-used : checkOf k clock size key challenge presented following ≡ judge Nowhere g
     judged-used =
         let v : foundOf (sweep (matchesAt (k .rule) key challenge presented following) (first + ahead) (min end (k .next .0 + ahead) - (first + ahead))) ≡ g = rw (← n) (sym u) in
-        judged-check ∙ ap₂ (judge (tooFar k clock)) i v
+        judged-check ∙ ap₂ judge i v
 
     pub check-rest : {r : Outcome} → r ≡ usedOrWrong g → r ≡ checkOf k clock size key challenge presented following
     check-rest e = e ∙ sym (judged-used ∙ by-found g)
       where
-        by-found : (x : Found) → judge (tooFar k clock) Nowhere x ≡ usedOrWrong x
+        by-found : (x : Found) → judge Nowhere x ≡ usedOrWrong x
         by-found (At s) = refl
         by-found Nowhere = refl
 
@@ -107,9 +107,9 @@ module _ (k : Track) (clock : ℕ) (size : Size) (key challenge presented follow
 module _ (k : Track) (clock : ℕ) (size : Size) (key challenge presented : List ℕ) {first end fresh : ℕ} {f : Found}
     (a : first ≡ firstStep k clock size) (b : end ≡ endStep k clock size) (m : fresh ≡ max (first + 0) (k .next .0 + 0))
     (e : f ≡ foundOf (sweep (hasPassword (k .rule) key challenge presented) fresh (end - fresh))) where
-  pub single-accepts : {s : Step} {r : Outcome} → f ≡ At s → r ≡ accepting (tooFar k clock) (s .0) → r ≡ checkOf k clock size key challenge presented []
+  pub single-accepts : {s : Step} → f ≡ At s → Accepted s ≡ checkOf k clock size key challenge presented []
   unfolding matchesAt
-  single-accepts i p = check-accepts k clock size key challenge presented [] refl a b m e i p
+  single-accepts i = check-accepts k clock size key challenge presented [] refl a b m e i
 
   pub single-rest : {used : ℕ} {g : Found} {r : Outcome} → f ≡ Nowhere → used ≡ min end (k .next .0 + 0)
       → g ≡ foundOf (sweep (hasPassword (k .rule) key challenge presented) first (used - first)) → r ≡ usedOrWrong g → r ≡ checkOf k clock size key challenge presented []

@@ -2,19 +2,14 @@
 use crate::Outcome;
 use crate::Seconds;
 use crate::Size;
-use crate::Step;
-use crate::TIME_TOKEN;
 use crate::Track;
 use crate::goal::goal_of;
 use crate::lanes::search_again;
 use crate::lanes::search_first;
 use crate::matching::ahead_of;
-use crate::range::FARTHEST;
 use crate::range::candidates;
 use crate::range::larger;
-use crate::range::less;
 use crate::range::smaller;
-use crate::range::step_at;
 use crate::search::Found;
 use crate::search::first_match;
 use otp::prepared::prepare;
@@ -24,9 +19,8 @@ ghost use mathlib.Core.List.{[]};
 ghost use Prim.Native.Nat.{_+_, _≤_, min, max};
 ghost use Rattle.window.specs.Window.{Sound};
 ghost use Rattle.window.specs.WindowLaws.{firstStep, endStep};
-ghost use Rattle.window.specs.Check.{accepting};
 ghost use Rattle.window.specs.SearchLaws.{usedOrWrong};
-ghost use Rattle.window.specs.TokenCheck.{tooFar, checkOf};
+ghost use Rattle.window.specs.TokenCheck.{checkOf};
 ghost use Rattle.window.specs.PasswordAt.{inRange};
 ghost use Rattle.window.specs.PasswordAtLaws.{countsRight};
 
@@ -36,20 +30,6 @@ fn counts_right(digits: u8, presented: &[u8], following: &[u8]) -> bool
 {
     let n = digits as usize;
     (presented.len() == n) & ((following.len() == 0) | (following.len() == n))
-}
-
-// The outcome of a match whose step is a.
-fn accept(track: Track, clock: Seconds, a: u64) -> Outcome
-    requires { ⌜ Sound track (clock .0) ⌝ }
-    ensures { λ r. ⌜ r ≡ accepting (tooFar track (clock .0)) a ⌝ }
-{
-    if track.rule.kind == TIME_TOKEN {
-        let t = step_at(clock, track.period).0;
-        if FARTHEST < less(a, t) + less(t, a) {
-            return Outcome::TooFar;
-        }
-    }
-    Outcome::Accepted(Step(a))
 }
 
 // The candidates in two parts, by the step to accept: used ones from first + ahead up to used, fresh ones from fresh up to end.
@@ -116,7 +96,7 @@ fn searched(
         ranges.fresh,
         ranges.end,
     ) {
-        return accept(track, clock, a.0);
+        return Outcome::Accepted(a);
     }
     used_or_wrong(first_match(
         track.rule,
@@ -163,7 +143,7 @@ fn searched_in_lanes(
         ranges.end,
         &mut keys,
     ) {
-        return accept(track, clock, a.0);
+        return Outcome::Accepted(a);
     }
     used_or_wrong(search_again(goal, rule, key, &keys, first, ranges.used))
 }

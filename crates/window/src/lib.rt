@@ -52,10 +52,9 @@ pub struct Track {
     pub offset: Offset,
 }
 
-// What a check finds: the accepted step, a match that would set d past 600 either way, or a password that was used or is wrong.
+// What a check finds: the accepted step, or a password that was used or is wrong.
 pub enum Outcome {
     Accepted(Step),
-    TooFar,
     Used,
     Wrong,
 }

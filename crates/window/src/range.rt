@@ -58,7 +58,7 @@ fn event_width(size: Size) -> u64
 }
 
 // a less b, or 0.
-pub(crate) fn less(a: u64, b: u64) -> u64
+fn less(a: u64, b: u64) -> u64
     ensures { λ r. ⌜ r ≡ a - b ⌝ }
 {
     if b <= a { a - b } else { 0 }

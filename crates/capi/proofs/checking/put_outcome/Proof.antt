@@ -16,9 +16,6 @@ enum-told c = search needs
 enum-told-2 : tie.Need-enum-told-2
 enum-told-2 c = search needs
 
-enum-told-3 : tie.Need-enum-told-3
-enum-told-3 c = search needs
-
 same-length : tie.Need-same-length
 same-length c = search needs
 
@@ -31,9 +28,6 @@ returns-2 c = search needs
 returns-3 : tie.Need-returns-3
 returns-3 c = search needs
 
-returns-4 : tie.Need-returns-4
-returns-4 c = search needs
-
 pub put-outcome-spec : {M : Type 1} → statement M
 put-outcome-spec =
     tie.close
@@ -42,9 +36,7 @@ put-outcome-spec =
     slice-write-step
     enum-told
     enum-told-2
-    enum-told-3
     same-length
     returns
     returns-2
-    returns-3
-    returns-4)
+    returns-3)

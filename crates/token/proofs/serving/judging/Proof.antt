@@ -14,23 +14,17 @@ accepted-requires c κs = (c .before .before .before .before .pre .0, rw (c .bef
 enum-told : tie.Need-enum-told
 enum-told c = search needs
 
-refusing-requires : tie.Need-refusing-requires
-refusing-requires c κs = search needs
-
-enum-told-2 : tie.Need-enum-told-2
-enum-told-2 c = search needs
-
 used-refusal-requires : tie.Need-used-refusal-requires
 used-refusal-requires c κs = search needs
 
 failed-requires : tie.Need-failed-requires
 failed-requires c κs = search needs
 
-refusing-requires-2 : tie.Need-refusing-requires-2
-refusing-requires-2 c κs = search needs
+refusing-requires : tie.Need-refusing-requires
+refusing-requires c κs = search needs
 
-enum-told-3 : tie.Need-enum-told-3
-enum-told-3 c = search needs
+enum-told-2 : tie.Need-enum-told-2
+enum-told-2 c = search needs
 
 wrong-refusal-requires : tie.Need-wrong-refusal-requires
 wrong-refusal-requires c κs = search needs
@@ -38,20 +32,17 @@ wrong-refusal-requires c κs = search needs
 failed-requires-2 : tie.Need-failed-requires-2
 failed-requires-2 c κs = search needs
 
-refusing-requires-3 : tie.Need-refusing-requires-3
-refusing-requires-3 c κs = search needs
+refusing-requires-2 : tie.Need-refusing-requires-2
+refusing-requires-2 c κs = search needs
 
 returns : tie.Need-returns
 returns c = rw (c .before .before .before .outcome .given .1, c .before .offset-after .ensures, c .accepted .ensures)
 
 returns-2 : tie.Need-returns-2
-returns-2 c = rw (c .before .enum-told .given .1) (c .refusing .ensures)
+returns-2 c = rw (c .before .before .before .enum-told .given .1, ← c .before .before .used-refusal .ensures, ← c .before .failed .ensures) (c .refusing .ensures)
 
 returns-3 : tie.Need-returns-3
-returns-3 c = rw (c .before .before .before .enum-told2 .given .1, ← c .before .before .used-refusal .ensures, ← c .before .failed .ensures) (c .refusing2 .ensures)
-
-returns-4 : tie.Need-returns-4
-returns-4 c = rw (c .before .before .before .enum-told3 .given .1, ← c .before .before .wrong-refusal .ensures, ← c .before .failed2 .ensures) (c .refusing3 .ensures)
+returns-3 c = rw (c .before .before .before .enum-told2 .given .1, ← c .before .before .wrong-refusal .ensures, ← c .before .failed2 .ensures) (c .refusing2 .ensures)
 
 pub judging-spec : {M : Type 1} → statement M
 judging-spec =
@@ -61,16 +52,13 @@ judging-spec =
     offset-after-requires
     accepted-requires
     enum-told
-    refusing-requires
-    enum-told-2
     used-refusal-requires
     failed-requires
-    refusing-requires-2
-    enum-told-3
+    refusing-requires
+    enum-told-2
     wrong-refusal-requires
     failed-requires-2
-    refusing-requires-3
+    refusing-requires-2
     returns
     returns-2
-    returns-3
-    returns-4)
+    returns-3)

@@ -20,11 +20,8 @@ first-match-requires c κs = let a = c .before .before .before .before .before .
 enum-known-a : tie.Need-enum-known-a
 enum-known-a c = search needs
 
-accept-requires : tie.Need-accept-requires
-accept-requires c κs = search needs
-
 returns : tie.Need-returns
-returns c = let a = c .before .before .before .before .before .before .before .before .before .before .before .args in single-accepts (a .track) (a .clock .0) (a .size) (a .key .now) (a .challenge .now) (a .presented .now) (c .before .before .before .before .before .before .parted .ensures .0) (c .before .before .before .before .before .before .parted .ensures .1 .0) (c .before .before .before .before .before .before .parted .ensures .1 .1 .0) (c .before .before .before .before .first-match .ensures) (c .before .before .a .given .1) (c .accept .ensures)
+returns c = let a = c .before .before .before .before .before .before .before .before .before .before .args in single-accepts (a .track) (a .clock .0) (a .size) (a .key .now) (a .challenge .now) (a .presented .now) (c .before .before .before .before .before .parted .ensures .0) (c .before .before .before .before .before .parted .ensures .1 .0) (c .before .before .before .before .before .parted .ensures .1 .1 .0) (c .before .before .before .first-match .ensures) (c .before .a .given .1)
 
 enum-told : tie.Need-enum-told
 enum-told c = search needs
@@ -50,7 +47,6 @@ searched-spec =
     slice-aggregate-first-match
     first-match-requires
     enum-known-a
-    accept-requires
     returns
     enum-told
     slice-aggregate-first-match-2

@@ -67,19 +67,16 @@ search-first-requires-2 c κs =
 enum-known-a : tie.Need-enum-known-a
 enum-known-a c = search needs
 
-accept-requires : tie.Need-accept-requires
-accept-requires c κs = c .before .before .before .before .before .before .before .before .before .before .before .before .before .before .before .before .before .pre .0
-
 returns-2 : tie.Need-returns-2
 returns-2 c =
-    let args = c .before .before .before .before .before .before .before .before .before .before .before .before .before .before .before .before .before .before .args in
-    let pre = c .before .before .before .before .before .before .before .before .before .before .before .before .before .before .before .before .before .before .pre in
-    let goal-of = c .before .before .before .before .before .before .before .before .before .before .before .before .before .before .goal-of in
-    let ahead-of = c .before .before .before .before .before .before .before .before .before .before .before .before .ahead-of in
-    let parted = c .before .before .before .before .before .before .before .before .before .before .before .parted in
-    let search-first2 = c .before .before .before .before .before .search-first2 in
-    let a = c .before .before .a in
-    lanes-accepts (args .track) (args .clock .0) (args .size) (args .key .now) (args .presented .now) (args .following .now) (pre .0) (pre .1 .1) (ahead-of .ensures) (parted .ensures .0) (parted .ensures .1 .0) (parted .ensures .1 .1 .0) (parted .ensures .1 .1 .1) (goal-of .ensures) (search-first2 .ensures .0) (a .given .1) (c .accept .ensures)
+    let args = c .before .before .before .before .before .before .before .before .before .before .before .before .before .before .before .before .before .args in
+    let pre = c .before .before .before .before .before .before .before .before .before .before .before .before .before .before .before .before .before .pre in
+    let goal-of = c .before .before .before .before .before .before .before .before .before .before .before .before .before .goal-of in
+    let ahead-of = c .before .before .before .before .before .before .before .before .before .before .before .ahead-of in
+    let parted = c .before .before .before .before .before .before .before .before .before .before .parted in
+    let search-first2 = c .before .before .before .before .search-first2 in
+    let a = c .before .a in
+    lanes-accepts (args .track) (args .clock .0) (args .size) (args .key .now) (args .presented .now) (args .following .now) (pre .0) (pre .1 .1) (ahead-of .ensures) (parted .ensures .0) (parted .ensures .1 .0) (parted .ensures .1 .1 .0) (parted .ensures .1 .1 .1) (goal-of .ensures) (search-first2 .ensures .0) (a .given .1)
 
 enum-told : tie.Need-enum-told
 enum-told c = search needs
@@ -127,7 +124,6 @@ searched-in-lanes-spec =
     slice-aggregate-search-first-2
     search-first-requires-2
     enum-known-a
-    accept-requires
     returns-2
     enum-told
     slice-aggregate-search-again
