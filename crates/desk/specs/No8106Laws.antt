@@ -6,6 +6,7 @@ use mathlib.Core.List.{List, []}
 use mathlib.Core.Option.{some}
 use native.Mathlib.Omega.{arith}
 use lib.Dec.{eqb, leb}
+use Rattle.words.specs.Lists.{oneOf}
 use Rattle.words.specs.Branches.{either}
 use Rattle.window.specs.declared.Size.{Size}
 use Rattle.window.specs.declared.Step.{Step}
@@ -31,8 +32,9 @@ use Rattle.token.specs.States.{waited}
 use Rattle.token.specs.StatesLaws.{waited-track}
 use Rattle.token.specs.Serving.{judging, timely, checking, permitted, serving, served, querying}
 use Rattle.token.specs.OnTable.{Result, servedAt, queriedAt}
-use Rattle.desk.specs.Requests.{Request, tableOk, clockOk, requestOk}
+use Rattle.desk.specs.Requests.{Request, DeskCall, tableOk, clockOk, requestOk}
 use Rattle.desk.specs.Desk.{syncCall, requestedAt, deskAfter}
+use Rattle.desk.specs.Demand1.{codesOf}
 use Rattle.desk.specs.Demand2.{stepOf}
 use Rattle.desk.specs.No8106.{No8106, AcceptedNear}
 
@@ -147,6 +149,23 @@ answer-other (Answer.Refused refusal) = refusal-other refusal
 -- no answer has that number
 pub no-8106 : No8106
 no-8106 passwords call s = answer-other (deskAfter passwords call s .answer)
+
+-- and no call has it among its codes
+pub not-listed : (call : DeskCall) → oneOf 0x8106 (codesOf call) ≡ false
+not-listed (DeskCall.load p key) = refl
+not-listed (DeskCall.named request serial clock) = by-request request
+  where
+    by-request : (request : Request) → oneOf 0x8106 (codesOf (DeskCall.named request serial clock)) ≡ false
+    by-request (Request.login password) = refl
+    by-request (Request.challengeLogin challenge password) = refl
+    by-request (Request.activate password following) = refl
+    by-request Request.lock = refl
+    by-request (Request.unlock password) = refl
+    by-request Request.suspend = refl
+    by-request (Request.resume password) = refl
+    by-request (Request.sync choice password following) = refl
+    by-request Request.void = refl
+    by-request Request.query = refl
 
 -- ---- an accepted step is a candidate
 
