@@ -8,10 +8,10 @@ use native.Mathlib.Omega.{arith}
 use borrow.Author.Tests.{eqb-true, eqb-false, lt-ltb, le-leb, ltb-true, ltb-false, leb-false}
 use lib.Dec.{eqb, leb, ltb, lit≤}
 use lib.ListN.{length, getD, length-append, List·getD-append}
-use Rattle.words.specs.ListsLaws.{by-test}
+use Rattle.words.specs.BoolLaws.{by-test}
 use Rattle.text.specs.declared.numbers.Number.{Number}
-use Rattle.text.specs.Text.{comma, digitValue, digitsFrom, decimalOf, bounded, numberOf}
-use Rattle.text.specs.ReturnLaws.{decimal-digits}
+use Rattle.text.specs.Text.{comma, digitValue, digitsFrom, decimalOf, bounded, numberIn}
+use Rattle.text.specs.DecimalLaws.{decimal-digits}
 use Rattle.window.specs.declared.Offset.{Offset}
 use Rattle.window.specs.Window.{farthest}
 use Rattle.token.specs.declared.answers.Content.{Content}
@@ -69,7 +69,7 @@ no-zero-first (suc (suc n)) x p l e =
     no-zero-first (suc n) (x / 10) (omega arith) (div-lt-iff-lt-mul (zero-lt-suc 9) .1 (rw (pow-suc 10 (suc n)) at l))
     (sym (List·getD-append (decimalDigits (suc n) (x / 10)) ((x % 10 + 0x30) ∷ []) 0 0 (digits-there n (x / 10))) ∙ rw m at e))
 
-pub decimal-again : (x : ℕ) → x < 2 ^ 64 → Number.Value x ≡ numberOf (decimalText x)
+pub decimal-again : (x : ℕ) → x < 2 ^ 64 → Number.Value x ≡ numberIn (decimalText x)
 unfolding decimalDigits decimalOf digitsFrom digitValue bounded
 decimal-again x l =
     by-test (eqb x 0)
@@ -85,10 +85,10 @@ decimal-again x l =
 abbrev pub Typed : Content → Type 0
 Typed Content.Plain = Unit {0}
 Typed (Content.Checked step offset) = (step .0 < 2 ^ 64) × (offset .0 < 2 ^ 16)
-Typed (Content.Told status) = (status .state < 2 ^ 8) × ((status .errors < 2 ^ 8) × (status .used .0 < 2 ^ 64))
+Typed (Content.Queried status) = (status .state < 2 ^ 8) × ((status .errors < 2 ^ 8) × (status .«last_use» .0 < 2 ^ 64))
 
 abbrev pub AnswerTyped : Answer → Type 0
-AnswerTyped (Answer.Success call content) = Typed content
+AnswerTyped (Answer.Success number content) = Typed content
 AnswerTyped (Answer.Refused refusal) = Unit {0}
 
 -- an offset has a sign and up to five digits
@@ -106,17 +106,17 @@ content-fits (Content.Checked step offset) h =
     let a = decimal-few 19 (step .0) (lt-of-lt-of-le (h .0) (lit≤ tt)) in
     let b = offset-fits offset (h .1) in
     rw (length-append (decimalText (step .0)) (comma ∷ (signedText (signedOf offset) ++ [])), length-append (signedText (signedOf offset)) []) (omega arith)
-content-fits (Content.Told status) h =
+content-fits (Content.Queried status) h =
     let a = decimal-few 2 (status .state) (omega arith) in
     let b = decimal-few 2 (status .errors) (omega arith) in
-    let c = decimal-few 19 (status .used .0) (lt-of-lt-of-le (h .1 .1) (lit≤ tt)) in
+    let c = decimal-few 19 (status .«last_use» .0) (lt-of-lt-of-le (h .1 .1) (lit≤ tt)) in
     rw (
-      length-append (decimalText (status .state)) (comma ∷ (decimalText (status .errors) ++ (comma ∷ (decimalText (status .used .0) ++ [])))),
-      length-append (decimalText (status .errors)) (comma ∷ (decimalText (status .used .0) ++ [])),
-      length-append (decimalText (status .used .0)) [],
+      length-append (decimalText (status .state)) (comma ∷ (decimalText (status .errors) ++ (comma ∷ (decimalText (status .«last_use» .0) ++ [])))),
+      length-append (decimalText (status .errors)) (comma ∷ (decimalText (status .«last_use» .0) ++ [])),
+      length-append (decimalText (status .«last_use» .0)) [],
     ) (omega arith)
 
 pub answer-fits : (answer : Answer) → AnswerTyped answer → length (answerText answer) ≤ 40
 unfolding answerText codeText valuesText
-answer-fits (Answer.Success call content) h = let few = content-fits content h in omega arith
+answer-fits (Answer.Success number content) h = let few = content-fits content h in omega arith
 answer-fits (Answer.Refused refusal) h = omega arith

@@ -6,12 +6,12 @@ use native.Mathlib.Omega.{arith}
 use borrow.Author.Tests.{ltb-true, ltb-false, ne-eqb}
 use lib.Dec.{eqb, ltb}
 use lib.ListN.{length, take, drop}
-use Rattle.words.specs.ListsLaws.{by-test}
+use Rattle.words.specs.BoolLaws.{by-test}
 use Rattle.text.specs.declared.fields.Field.{Field}
 use Rattle.text.specs.Text.{fieldsOf, fieldEnd, fieldAt}
 use Rattle.text.specs.Steps.{startAfter}
 use Rattle.text.specs.TextLaws.{end-le, fields-positive, fields-from}
-use Rattle.text.specs.ReturnLaws.{starts-rise, counted}
+use Rattle.text.specs.FieldLaws.{starts-rise, counted}
 use Rattle.call_lines.specs.Line.{fieldOf}
 
 -- what the loop of `start_of` keeps: the walk from start on leads to the field of number i

@@ -1,5 +1,6 @@
 -- What a line of the program desk_lines means: the call that it makes, and the text that is printed for it.
 pub mod Line
+pub mod Puts
 pub mod LineLaws
 pub mod FieldsLaws
 pub mod PrintingLaws

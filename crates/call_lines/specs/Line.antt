@@ -1,6 +1,6 @@
 -- What a line of the program desk_lines means (its format: "Lines for the desk"): the call that it makes, and what is printed for it.
 use Prim.Native.Nat.{ℕ, zero, suc, _+_, _-_, _/_, _%_, _^_}
-use mathlib.Core.Bool.{cond}
+use mathlib.Core.Bool.{Bool, cond}
 use mathlib.Core.List.{List, [], _∷_, _++_}
 use mathlib.Core.Option.{Option, none, some}
 use lib.Dec.{eqb, leb, ltb}
@@ -11,10 +11,9 @@ use Rattle.window.specs.PasswordAt.{PasswordRule}
 use Rattle.token.specs.declared.answers.Refusal.{Refusal}
 use Rattle.token.specs.declared.answers.Answer.{Answer}
 use Rattle.token.specs.Codes.{Signed, numberOf, valuesOf}
-use Rattle.token.specs.OnTable.{Result}
 use Rattle.desk.specs.declared.Particulars.{Particulars}
-use Rattle.desk.specs.Requests.{Request, DeskCall}
-use Rattle.desk.specs.Desk.{refused, deskAfter}
+use Rattle.desk.specs.Requests.{DeskCall, loginCall, challengeCall, activateCall, lockCall, unlockCall, suspendCall, resumeCall, syncCall, voidCall, queryCall}
+use Rattle.desk.specs.Desk.{Result, refused, deskAfter}
 use Rattle.call_lines.specs.declared.Printed.{Printed}
 use Rattle.call_lines.specs.declared.names.Name.{Name}
 
@@ -73,6 +72,10 @@ below limit (some x) = cond (ltb x limit) (some x) none
 abbrev pub numberBelow : ℕ → List ℕ → Option ℕ
 numberBelow limit field = below limit (decimalOf field)
 
+-- a value that was read, if it was right
+unfoldable pub taken : {A : Type 0} → Bool → A → Option A
+taken ok x = cond ok (some x) none
+
 -- ---- calls
 
 -- load,SERIAL,KIND,ALGORITHM,DIGITS,PERIOD,LIMIT,KEY,WAIT,EXPIRY
@@ -87,41 +90,41 @@ particularsOf fields serial expiry =
     (λ wait. some
     (record {
       serial = serial;
-      rule = record { kind = kind; algorithm = algorithm; digits = digits };
+      scheme = record { kind = kind; algorithm = algorithm; digits = digits };
       period = period;
       limit = limit;
       wait = wait;
       expiry = record { 0 = expiry };
     })))))))
 
-unfoldable pub loadCall : List (List ℕ) → ℕ → ℕ → Option DeskCall
-loadCall fields serial expiry =
+unfoldable pub loadLine : List (List ℕ) → ℕ → ℕ → Option DeskCall
+loadLine fields serial expiry =
     given (particularsOf fields serial expiry)
     (λ particulars. given (hexOf (fieldOf fields 7)) (λ key. some (DeskCall.load particulars key)))
 
 -- challenge,SERIAL,Q,PASSWORD,NOW
-unfoldable pub challengeCall : List (List ℕ) → ℕ → ℕ → Option DeskCall
-challengeCall fields serial clock =
-    given (hexOf (fieldOf fields 2)) (λ challenge. some (DeskCall.named (Request.challengeLogin challenge (fieldOf fields 3)) serial clock))
+unfoldable pub challengeLine : List (List ℕ) → ℕ → ℕ → Option DeskCall
+challengeLine fields serial clock =
+    given (hexOf (fieldOf fields 2)) (λ challenge. some (challengeCall challenge (fieldOf fields 3) serial clock))
 
 -- sync,SERIAL,CHOICE,PASSWORD,NEXT,NOW
-unfoldable pub syncCall : List (List ℕ) → ℕ → ℕ → Option DeskCall
-syncCall fields serial clock =
-    given (numberBelow (2 ^ 8) (fieldOf fields 2)) (λ choice. some (DeskCall.named (Request.sync choice (fieldOf fields 3) (fieldOf fields 4)) serial clock))
+unfoldable pub syncLine : List (List ℕ) → ℕ → ℕ → Option DeskCall
+syncLine fields serial clock =
+    given (numberBelow (2 ^ 8) (fieldOf fields 2)) (λ choice. some (syncCall choice (fieldOf fields 3) (fieldOf fields 4) serial clock))
 
 -- the call of a name, its SERIAL and its time, which is the EXPIRY of a load and the NOW of the others
 unfoldable pub callBy : Name → List (List ℕ) → ℕ → ℕ → Option DeskCall
-callBy Name.Load fields serial expiry = loadCall fields serial expiry
-callBy Name.Login fields serial clock = some (DeskCall.named (Request.login (fieldOf fields 2)) serial clock)
-callBy Name.Challenge fields serial clock = challengeCall fields serial clock
-callBy Name.Activate fields serial clock = some (DeskCall.named (Request.activate (fieldOf fields 2) (fieldOf fields 3)) serial clock)
-callBy Name.Lock fields serial clock = some (DeskCall.named Request.lock serial clock)
-callBy Name.Suspend fields serial clock = some (DeskCall.named Request.suspend serial clock)
-callBy Name.Void fields serial clock = some (DeskCall.named Request.void serial clock)
-callBy Name.Query fields serial clock = some (DeskCall.named Request.query serial clock)
-callBy Name.Unlock fields serial clock = some (DeskCall.named (Request.unlock (fieldOf fields 2)) serial clock)
-callBy Name.Resume fields serial clock = some (DeskCall.named (Request.resume (fieldOf fields 2)) serial clock)
-callBy Name.Sync fields serial clock = syncCall fields serial clock
+callBy Name.Load fields serial expiry = loadLine fields serial expiry
+callBy Name.Login fields serial clock = some (loginCall (fieldOf fields 2) serial clock)
+callBy Name.Challenge fields serial clock = challengeLine fields serial clock
+callBy Name.Activate fields serial clock = some (activateCall (fieldOf fields 2) (fieldOf fields 3) serial clock)
+callBy Name.Lock fields serial clock = some (lockCall serial clock)
+callBy Name.Suspend fields serial clock = some (suspendCall serial clock)
+callBy Name.Void fields serial clock = some (voidCall serial clock)
+callBy Name.Query fields serial clock = some (queryCall serial clock)
+callBy Name.Unlock fields serial clock = some (unlockCall (fieldOf fields 2) serial clock)
+callBy Name.Resume fields serial clock = some (resumeCall (fieldOf fields 2) serial clock)
+callBy Name.Sync fields serial clock = syncLine fields serial clock
 callBy Name.Unknown fields serial clock = none
 
 -- every line has SERIAL behind its name, and a time at its end
@@ -162,7 +165,7 @@ valuesText [] = []
 valuesText (v ∷ values) = comma ∷ (signedText v ++ valuesText values)
 
 abbrev pub answerValues : Answer → List Signed
-answerValues (Answer.Success call content) = valuesOf content
+answerValues (Answer.Success number content) = valuesOf content
 answerValues (Answer.Refused refusal) = []
 
 -- the code, and what a success carries
@@ -177,13 +180,24 @@ made passwords none s = refused Refusal.BadArgument s
 made passwords (some call) s = deskAfter passwords call s
 
 -- the text printed for a line, without the line feed, and the table after it
-pub record Told : Type 0 where
+pub record Printing : Type 0 where
   pub text : List ℕ
   pub table : List ℕ
 
-unfoldable pub lineAfter : PasswordRule → List ℕ → List ℕ → Told
+unfoldable pub lineAfter : PasswordRule → List ℕ → List ℕ → Printing
 lineAfter passwords line s = record { text = answerText (made passwords (callOf line) s .answer); table = made passwords (callOf line) s .table }
 
 -- the text as the function gives it: how many bytes, and the bytes with zeros behind them
 unfoldable pub printedOf : List ℕ → Printed
 printedOf text = record { len = length text; bytes = text ++ replicate (40 - length text) 0 }
+
+-- what the function gives and leaves: the text, and the table
+pub record LineLeft : Type 0 where
+  pub printed : Printed
+  pub table : List ℕ
+
+abbrev pub left : Printed → List ℕ → LineLeft
+left printed s = record { printed = printed; table = s }
+
+unfoldable pub lineLeft : PasswordRule → List ℕ → List ℕ → LineLeft
+lineLeft passwords line s = left (printedOf (lineAfter passwords line s .text)) (lineAfter passwords line s .table)

@@ -4,34 +4,36 @@ use mathlib.Core.List.{[], _∷_}
 use mathlib.Core.Option.{none, some}
 use Rattle.words.specs.Lists.{sameBytes}
 use Rattle.text.specs.Text.{digitValue, digitsFrom, decimalOf, byteThen, hexOf, longer, fieldsOf}
-use Rattle.token.specs.declared.calls.Call.{Call}
+use Rattle.otp.specs.Typed.{asPassword}
 use Rattle.token.specs.declared.answers.Content.{Content}
 use Rattle.token.specs.declared.answers.Refusal.{Refusal}
 use Rattle.token.specs.declared.answers.Answer.{Answer}
+use Rattle.token.specs.declared.lines.Request.{Request}
+use Rattle.token.specs.Lines.{lineOf}
 use Rattle.token.specs.Codes.{signedOf, valuesOf}
-use Rattle.desk.specs.Requests.{Request, DeskCall}
-use Rattle.call_lines.specs.Line.{nameOf, particularsOf, loadCall, challengeCall, syncCall, callBy, fieldsCall, callOf, codeText, decimalDigits, valuesText, answerText}
+use Rattle.desk.specs.Requests.{DeskCall, loginCall, challengeCall, lockCall, syncCall}
+use Rattle.call_lines.specs.Line.{nameOf, particularsOf, loadLine, challengeLine, syncLine, callBy, fieldsCall, callOf, codeText, decimalDigits, valuesText, answerText}
 
 -- ---- calls
 
 -- lock,7,60
-pub lock-line : callOf (0x6c ∷ 0x6f ∷ 0x63 ∷ 0x6b ∷ 0x2c ∷ 0x37 ∷ 0x2c ∷ 0x36 ∷ 0x30 ∷ []) ≡ some (DeskCall.named Request.lock 7 60)
+pub lock-line : callOf (0x6c ∷ 0x6f ∷ 0x63 ∷ 0x6b ∷ 0x2c ∷ 0x37 ∷ 0x2c ∷ 0x36 ∷ 0x30 ∷ []) ≡ some (lockCall 7 60)
 unfolding nameOf callBy fieldsCall callOf sameBytes longer fieldsOf digitValue digitsFrom decimalOf
 lock-line = refl
 
 -- login,7,123456,60
-pub login-line : callOf (0x6c ∷ 0x6f ∷ 0x67 ∷ 0x69 ∷ 0x6e ∷ 0x2c ∷ 0x37 ∷ 0x2c ∷ 0x31 ∷ 0x32 ∷ 0x33 ∷ 0x34 ∷ 0x35 ∷ 0x36 ∷ 0x2c ∷ 0x36 ∷ 0x30 ∷ []) ≡ some (DeskCall.named (Request.login (0x31 ∷ 0x32 ∷ 0x33 ∷ 0x34 ∷ 0x35 ∷ 0x36 ∷ [])) 7 60)
+pub login-line : callOf (0x6c ∷ 0x6f ∷ 0x67 ∷ 0x69 ∷ 0x6e ∷ 0x2c ∷ 0x37 ∷ 0x2c ∷ 0x31 ∷ 0x32 ∷ 0x33 ∷ 0x34 ∷ 0x35 ∷ 0x36 ∷ 0x2c ∷ 0x36 ∷ 0x30 ∷ []) ≡ some (loginCall (0x31 ∷ 0x32 ∷ 0x33 ∷ 0x34 ∷ 0x35 ∷ 0x36 ∷ []) 7 60)
 unfolding nameOf callBy fieldsCall callOf sameBytes longer fieldsOf digitValue digitsFrom decimalOf
 login-line = refl
 
 -- challenge,7,41626364,123456,60
-pub challenge-line : callOf (0x63 ∷ 0x68 ∷ 0x61 ∷ 0x6c ∷ 0x6c ∷ 0x65 ∷ 0x6e ∷ 0x67 ∷ 0x65 ∷ 0x2c ∷ 0x37 ∷ 0x2c ∷ 0x34 ∷ 0x31 ∷ 0x36 ∷ 0x32 ∷ 0x36 ∷ 0x33 ∷ 0x36 ∷ 0x34 ∷ 0x2c ∷ 0x31 ∷ 0x32 ∷ 0x33 ∷ 0x34 ∷ 0x35 ∷ 0x36 ∷ 0x2c ∷ 0x36 ∷ 0x30 ∷ []) ≡ some (DeskCall.named (Request.challengeLogin (0x41 ∷ 0x62 ∷ 0x63 ∷ 0x64 ∷ []) (0x31 ∷ 0x32 ∷ 0x33 ∷ 0x34 ∷ 0x35 ∷ 0x36 ∷ [])) 7 60)
-unfolding nameOf callBy fieldsCall callOf sameBytes longer fieldsOf digitValue digitsFrom decimalOf challengeCall hexOf byteThen
+pub challenge-line : callOf (0x63 ∷ 0x68 ∷ 0x61 ∷ 0x6c ∷ 0x6c ∷ 0x65 ∷ 0x6e ∷ 0x67 ∷ 0x65 ∷ 0x2c ∷ 0x37 ∷ 0x2c ∷ 0x34 ∷ 0x31 ∷ 0x36 ∷ 0x32 ∷ 0x36 ∷ 0x33 ∷ 0x36 ∷ 0x34 ∷ 0x2c ∷ 0x31 ∷ 0x32 ∷ 0x33 ∷ 0x34 ∷ 0x35 ∷ 0x36 ∷ 0x2c ∷ 0x36 ∷ 0x30 ∷ []) ≡ some (challengeCall (0x41 ∷ 0x62 ∷ 0x63 ∷ 0x64 ∷ []) (0x31 ∷ 0x32 ∷ 0x33 ∷ 0x34 ∷ 0x35 ∷ 0x36 ∷ []) 7 60)
+unfolding nameOf callBy fieldsCall callOf sameBytes longer fieldsOf digitValue digitsFrom decimalOf challengeLine hexOf byteThen
 challenge-line = refl
 
 -- sync,7,2,123456,654321,60
-pub sync-line : callOf (0x73 ∷ 0x79 ∷ 0x6e ∷ 0x63 ∷ 0x2c ∷ 0x37 ∷ 0x2c ∷ 0x32 ∷ 0x2c ∷ 0x31 ∷ 0x32 ∷ 0x33 ∷ 0x34 ∷ 0x35 ∷ 0x36 ∷ 0x2c ∷ 0x36 ∷ 0x35 ∷ 0x34 ∷ 0x33 ∷ 0x32 ∷ 0x31 ∷ 0x2c ∷ 0x36 ∷ 0x30 ∷ []) ≡ some (DeskCall.named (Request.sync 2 (0x31 ∷ 0x32 ∷ 0x33 ∷ 0x34 ∷ 0x35 ∷ 0x36 ∷ []) (0x36 ∷ 0x35 ∷ 0x34 ∷ 0x33 ∷ 0x32 ∷ 0x31 ∷ [])) 7 60)
-unfolding nameOf callBy fieldsCall callOf sameBytes longer fieldsOf digitValue digitsFrom decimalOf syncCall
+pub sync-line : callOf (0x73 ∷ 0x79 ∷ 0x6e ∷ 0x63 ∷ 0x2c ∷ 0x37 ∷ 0x2c ∷ 0x32 ∷ 0x2c ∷ 0x31 ∷ 0x32 ∷ 0x33 ∷ 0x34 ∷ 0x35 ∷ 0x36 ∷ 0x2c ∷ 0x36 ∷ 0x35 ∷ 0x34 ∷ 0x33 ∷ 0x32 ∷ 0x31 ∷ 0x2c ∷ 0x36 ∷ 0x30 ∷ []) ≡ some (syncCall 2 (0x31 ∷ 0x32 ∷ 0x33 ∷ 0x34 ∷ 0x35 ∷ 0x36 ∷ []) (0x36 ∷ 0x35 ∷ 0x34 ∷ 0x33 ∷ 0x32 ∷ 0x31 ∷ []) 7 60)
+unfolding nameOf callBy fieldsCall callOf sameBytes longer fieldsOf digitValue digitsFrom decimalOf syncLine
 sync-line = refl
 
 -- load,7,0,3,6,60,5,0aB0,600,99
@@ -40,21 +42,21 @@ pub load-line : callOf (0x6c ∷ 0x6f ∷ 0x61 ∷ 0x64 ∷ 0x2c ∷ 0x37 ∷ 0x
     (DeskCall.load
     (record {
       serial = 7;
-      rule = record { kind = 0; algorithm = 3; digits = 6 };
+      scheme = record { kind = 0; algorithm = 3; digits = 6 };
       period = 60;
       limit = 5;
       wait = 600;
       expiry = record { 0 = 99 };
     })
     (0x0a ∷ 0xb0 ∷ []))
-unfolding nameOf callBy fieldsCall callOf sameBytes longer fieldsOf digitValue digitsFrom decimalOf particularsOf loadCall hexOf byteThen
+unfolding nameOf callBy fieldsCall callOf sameBytes longer fieldsOf digitValue digitsFrom decimalOf particularsOf loadLine hexOf byteThen
 load-line = refl
 
 -- ---- lines that are not so made
 
 -- load,7,300,3,6,60,5,0aB0,600,99: KIND is a byte
 pub kind-too-large : callOf (0x6c ∷ 0x6f ∷ 0x61 ∷ 0x64 ∷ 0x2c ∷ 0x37 ∷ 0x2c ∷ 0x33 ∷ 0x30 ∷ 0x30 ∷ 0x2c ∷ 0x33 ∷ 0x2c ∷ 0x36 ∷ 0x2c ∷ 0x36 ∷ 0x30 ∷ 0x2c ∷ 0x35 ∷ 0x2c ∷ 0x30 ∷ 0x61 ∷ 0x42 ∷ 0x30 ∷ 0x2c ∷ 0x36 ∷ 0x30 ∷ 0x30 ∷ 0x2c ∷ 0x39 ∷ 0x39 ∷ []) ≡ none
-unfolding nameOf callBy fieldsCall callOf sameBytes longer fieldsOf digitValue digitsFrom decimalOf particularsOf loadCall
+unfolding nameOf callBy fieldsCall callOf sameBytes longer fieldsOf digitValue digitsFrom decimalOf particularsOf loadLine
 kind-too-large = refl
 
 -- lock,07,60
@@ -85,16 +87,16 @@ unfolding answerText codeText valuesText
 bad-argument-text = refl
 
 -- 010a
-pub void-text : answerText (Answer.Success Call.Void Content.Plain) ≡ 0x30 ∷ 0x31 ∷ 0x30 ∷ 0x61 ∷ []
+pub void-text : answerText (Answer.Success (lineOf Request.Void .success) Content.Plain) ≡ 0x30 ∷ 0x31 ∷ 0x30 ∷ 0x61 ∷ []
 unfolding answerText codeText valuesText valuesOf
 void-text = refl
 
 -- 0001,27,-1
-pub login-text : answerText (Answer.Success Call.Login (Content.Checked (record { 0 = 27 }) (record { 0 = 599 }))) ≡ 0x30 ∷ 0x30 ∷ 0x30 ∷ 0x31 ∷ 0x2c ∷ 0x32 ∷ 0x37 ∷ 0x2c ∷ 0x2d ∷ 0x31 ∷ []
+pub login-text : answerText (Answer.Success (lineOf (Request.Login (asPassword [])) .success) (Content.Checked (record { 0 = 27 }) (record { 0 = 599 }))) ≡ 0x30 ∷ 0x30 ∷ 0x30 ∷ 0x31 ∷ 0x2c ∷ 0x32 ∷ 0x37 ∷ 0x2c ∷ 0x2d ∷ 0x31 ∷ []
 unfolding answerText codeText valuesText valuesOf signedOf decimalDigits
 login-text = refl
 
 -- 010b,2,0,1650
-pub query-text : answerText (Answer.Success Call.Query (Content.Told (record { state = 2; errors = 0; used = record { 0 = 1650 } }))) ≡ 0x30 ∷ 0x31 ∷ 0x30 ∷ 0x62 ∷ 0x2c ∷ 0x32 ∷ 0x2c ∷ 0x30 ∷ 0x2c ∷ 0x31 ∷ 0x36 ∷ 0x35 ∷ 0x30 ∷ []
+pub query-text : answerText (Answer.Success (lineOf Request.Query .success) (Content.Queried (record { state = 2; errors = 0; «last_use» = record { 0 = 1650 } }))) ≡ 0x30 ∷ 0x31 ∷ 0x30 ∷ 0x62 ∷ 0x2c ∷ 0x32 ∷ 0x2c ∷ 0x30 ∷ 0x2c ∷ 0x31 ∷ 0x36 ∷ 0x35 ∷ 0x30 ∷ []
 unfolding answerText codeText valuesText valuesOf decimalDigits
 query-text = refl

@@ -8,29 +8,23 @@ use native.Mathlib.Omega.{arith}
 use borrow.Author.Tests.{lt-ltb, le-ltb, lt-leb, le-leb, leb-false, ltb-false, eqb-true, ne-eqb, not-true, not-false}
 use lib.Dec.{eqb, leb, ltb}
 use lib.ListN.{length, take, drop}
-use Rattle.words.specs.ListsLaws.{by-test, and-false}
+use Rattle.words.specs.BoolLaws.{by-test, and-left, and-right, and-false, impossible}
 use Rattle.otp.specs.Password.{challengeOk}
-use Rattle.words.specs.Branches.{either}
-use Rattle.row.specs.declared.reading.Place.{Place}
-use Rattle.row.specs.Table.{findRow}
+use Rattle.row.specs.Row.{rowBytes}
 use Rattle.text.specs.declared.numbers.Number.{Number}
 use Rattle.text.specs.declared.hexadecimal.Decoded.{Decoded}
-use Rattle.text.specs.Text.{decoded, decodedOf, decimalOf, bounded, numberOf, hexOf, fieldsOf}
+use Rattle.text.specs.Text.{decoded, decodedOf, decimalOf, bounded, numberIn, hexOf, fieldsOf}
 use Rattle.text.specs.TextLaws.{number-value, hex-decoded, fields-positive}
 use Rattle.window.specs.PasswordAt.{PasswordRule}
 use Rattle.token.specs.declared.answers.Refusal.{Refusal}
 use Rattle.token.specs.declared.answers.Answer.{Answer}
-use Rattle.token.specs.OnTable.{Result}
 use Rattle.desk.specs.declared.Particulars.{Particulars}
-use Rattle.desk.specs.Requests.{Request, DeskCall, tableOk, clockOk, challengeGiven, requestOk}
-use Rattle.desk.specs.Desk.{refused, requestedAt, requestedOf, deskAfter}
+use Rattle.desk.specs.Requests.{DeskCall, challengeCall, syncCall, tableOk, challengeGiven, requestOk}
+use Rattle.desk.specs.Desk.{Result, result, refused, deskAfter}
 use Rattle.desk.specs.LoadLaws.{long-key-bad}
+use Rattle.call_lines.specs.declared.Printed.{Printed}
 use Rattle.call_lines.specs.declared.names.Name.{Name}
-use Rattle.call_lines.specs.Line.{countOf, fieldOf, given, below, numberBelow, particularsOf, loadCall, challengeCall, syncCall, callBy, fieldsCall, nameOf, callOf, codeText, valuesText, answerText, made, lineAfter}
-
--- a value as the functions give it: one that was right
-abbrev pub taken : {A : Type 0} → Bool → A → Option A
-taken ok x = cond ok (some x) none
+use Rattle.call_lines.specs.Line.{countOf, fieldOf, given, below, numberBelow, taken, particularsOf, loadLine, challengeLine, syncLine, callBy, fieldsCall, nameOf, callOf, codeText, valuesText, answerText, made, lineAfter, printedOf, left, lineLeft}
 
 -- ---- numbers
 
@@ -40,68 +34,51 @@ unfolding bounded
 not-bounded Q q h none e = q
 not-bounded Q q h (some v) e =
     by-test (ltb v (2 ^ 64))
-    (λ t. let z : cond true (Number.Value v) Number.Bad ≡ Number.Bad = rw t at e in let y : _≡_ {A = ℕ} 0 1 = cc in absurd (omega arith))
+    (λ t. let z : cond true (Number.Value v) Number.Bad ≡ Number.Bad = rw t at e in impossible (cc))
     (λ t. h v (ltb-false v (2 ^ 64) t))
 
 module _ (most : ℕ) {s field : List ℕ} (same : s ≡ field) where
-  pub number-bad : most < 2 ^ 64 → numberOf s ≡ Number.Bad → numberBelow (most + 1) field ≡ none
+  pub number-bad : most < 2 ^ 64 → numberIn s ≡ Number.Bad → numberBelow (most + 1) field ≡ taken false 0
+  unfolding taken
   number-bad fits e =
       rw (← same) (not-bounded (λ o. below (most + 1) o ≡ none) refl (λ v l. rw (le-ltb v (most + 1) (omega arith))) (decimalOf s) e)
 
-  module _ {x : ℕ} (read : numberOf s ≡ Number.Value x) where
-    pub number-within : x ≤ most → numberBelow (most + 1) field ≡ some x
+  module _ {x : ℕ} (read : numberIn s ≡ Number.Value x) where
+    pub number-within : x ≤ most → numberBelow (most + 1) field ≡ taken true x
+    unfolding taken
     number-within l = rw (← same, number-value s read .0, lt-ltb x (most + 1) (omega arith))
 
-    pub number-above : most < x → numberBelow (most + 1) field ≡ none
+    pub number-above : most < x → numberBelow (most + 1) field ≡ taken false 0
+    unfolding taken
     number-above l = rw (← same, number-value s read .0, le-ltb x (most + 1) (omega arith))
 
 -- ---- made calls
 
--- a query leaves the table
-query-place : (passwords : PasswordRule) (clock : ℕ) (s : List ℕ) (x : Place) → s ≡ requestedOf passwords Request.query clock s x .table
-unfolding requestedAt
-query-place passwords clock s (Place.At at) = refl
-query-place passwords clock s Place.Nowhere = refl
-
-query-keeps : (passwords : PasswordRule) (serial clock : ℕ) (s : List ℕ) → s ≡ deskAfter passwords (DeskCall.named Request.query serial clock) s .table
-unfolding deskAfter
-query-keeps passwords serial clock s =
-    either (λ (r : Result). s ≡ r .table) (tableOk s && (clockOk clock && requestOk Request.query)) (query-place passwords clock s (findRow s serial)) refl
-
 module _ (passwords : PasswordRule) (s : List ℕ) where
-  -- the call of a line was made
-  abbrev pub Made : Option DeskCall → Answer → List ℕ → Type 0
-  Made o answer table = (answer ≡ made passwords o s .answer) × (table ≡ made passwords o s .table)
-
-  -- it was turned down as a bad argument
+  -- what is no call, or one with a bad argument
   abbrev pub TurnedDown : Option DeskCall → Type 0
-  TurnedDown o = Made o (Answer.Refused Refusal.BadArgument) s
+  TurnedDown o = refused Refusal.BadArgument s ≡ made passwords o s
 
   pub made-none : {o : Option DeskCall} → o ≡ none → TurnedDown o
   unfolding made
-  made-none e = rw e (refl, refl)
+  made-none e = rw e
 
-  pub made-as : {o p : Option DeskCall} {answer : Answer} {table : List ℕ} → Made p answer table → o ≡ p → Made o answer table
+  pub made-as : {o p : Option DeskCall} {r : Result} → r ≡ made passwords p s → o ≡ p → r ≡ made passwords o s
   made-as m e = rw e m
 
-  pub made-call : {o : Option DeskCall} {call : DeskCall} {answer : Answer} {table : List ℕ}
-      → (answer ≡ deskAfter passwords call s .answer) × (table ≡ deskAfter passwords call s .table) → o ≡ some call → Made o answer table
+  pub made-call : {o : Option DeskCall} {call : DeskCall} {r : Result} → r ≡ deskAfter passwords call s → o ≡ some call → r ≡ made passwords o s
   unfolding made
   made-call m e = rw e m
-
-  pub made-query : {o : Option DeskCall} {serial clock : ℕ} {answer : Answer} → answer ≡ deskAfter passwords (DeskCall.named Request.query serial clock) s .answer
-      → o ≡ some (DeskCall.named Request.query serial clock) → Made o answer s
-  made-query {serial = serial} {clock} m e = made-call (m, query-keeps passwords serial clock s) e
 
 -- ---- a key or a challenge of more than 32 bytes is a bad argument
 
 module _ (passwords : PasswordRule) (s : List ℕ) where
   pub long-key : (p : Particulars) (key : List ℕ) → 32 < length key → deskAfter passwords (DeskCall.load p key) s ≡ refused Refusal.BadArgument s
   unfolding deskAfter
-  long-key p key l = rw (← long-key-bad p key l, and-false (tableOk s))
+  long-key p key l = rw (← long-key-bad p key l, and-false (tableOk rowBytes s))
 
   pub long-challenge : (challenge password : List ℕ) (serial clock : ℕ) → 32 < length challenge
-      → deskAfter passwords (DeskCall.named (Request.challengeLogin challenge password) serial clock) s ≡ refused Refusal.BadArgument s
+      → deskAfter passwords (challengeCall challenge password serial clock) s ≡ refused Refusal.BadArgument s
   unfolding deskAfter requestOk challengeGiven challengeOk
   long-challenge challenge password serial clock l =
       rw (ne-eqb (length challenge) 0 (λ e. omega arith), lt-leb (length challenge) 32 l, and-false, and-false, and-false, and-false)
@@ -112,62 +89,72 @@ unfolding decoded
 hex-bad Q q h none e = q
 hex-bad Q q h (some b) e =
     by-test (leb (length b) 32)
-    (λ t. let z : true ≡ false = rw t at e in let y : _≡_ {A = ℕ} 0 1 = cc in absurd (omega arith))
+    (λ t. let z : true ≡ false = rw t at e in impossible (cc))
     (λ t. h b (leb-false (length b) 32 t))
 
 -- what was decoded is the front of the bytes
-pub bytes-decoded : {s field : List ℕ} {r : Decoded} → s ≡ field → r ≡ decodedOf s → r .ok ≡ true
+bytes-decoded : {s field : List ℕ} {r : Decoded} → s ≡ field → r ≡ decodedOf s → r .ok ≡ true
     → (hexOf field ≡ some (take (r .len - 0) (drop 0 (r .bytes)))) × (r .len ≤ length (r .bytes))
 bytes-decoded {s} {field} {r} same p e =
     let h = hex-decoded s (rw p at e) in
     let z : r .len - 0 ≡ r .len = omega arith in
     (rw (← same, z, p) (h .0), rw p (h .1))
 
+pub decoded-within : (s : List ℕ) {r : Decoded} → r ≡ decodedOf s → not (r .ok) ≡ false → r .len ≤ length (r .bytes)
+decoded-within s {r} p t = bytes-decoded {s = s} refl p (not-false (r .ok) t) .1
+
 -- ---- the calls with arguments that are read
 
-module _ (passwords : PasswordRule) (s : List ℕ) (fields : List (List ℕ)) (serial clock : ℕ) where
-  pub challenge-bad : {digits : List ℕ} {r : Decoded} → digits ≡ fieldOf fields 2 → r ≡ decodedOf digits → not (r .ok) ≡ true
-      → TurnedDown passwords s (challengeCall fields serial clock)
-  unfolding challengeCall made
-  challenge-bad {digits} {r} same p e =
-      rw (← same)
-      (hex-bad
-      (λ o. TurnedDown passwords s (given o (λ challenge. some (DeskCall.named (Request.challengeLogin challenge (fieldOf fields 3)) serial clock))))
-      (refl, refl)
-      (λ q l. rw (long-challenge passwords s q (fieldOf fields 3) serial clock l) (refl, refl))
-      (hexOf digits)
-      (rw (← p) (not-true (r .ok) e)))
+module _ (fields : List (List ℕ)) (serial clock : ℕ) where
+  module _ {digits : List ℕ} {r : Decoded} (same : digits ≡ fieldOf fields 2) (key : r ≡ decodedOf digits) where
+    pub challenge-bad : (passwords : PasswordRule) (s : List ℕ) → not (r .ok) ≡ true → TurnedDown passwords s (challengeLine fields serial clock)
+    unfolding challengeLine made
+    challenge-bad passwords s e =
+        rw (← same)
+        (hex-bad
+        (λ o. TurnedDown passwords s (given o (λ challenge. some (challengeCall challenge (fieldOf fields 3) serial clock))))
+        refl
+        (λ q l. rw (long-challenge passwords s q (fieldOf fields 3) serial clock l))
+        (hexOf digits)
+        (rw (← key) (not-true (r .ok) e)))
 
-  pub challenge-read : {q password : List ℕ} → hexOf (fieldOf fields 2) ≡ some q → password ≡ fieldOf fields 3
-      → challengeCall fields serial clock ≡ some (DeskCall.named (Request.challengeLogin q password) serial clock)
-  unfolding challengeCall
-  challenge-read e p = rw (e, p)
+    pub challenge-read : {password : List ℕ} → not (r .ok) ≡ false → password ≡ fieldOf fields 3
+        → challengeLine fields serial clock ≡ some (challengeCall (take (r .len - 0) (drop 0 (r .bytes))) password serial clock)
+    unfolding challengeLine
+    challenge-read t p = rw (bytes-decoded same key (not-false (r .ok) t) .0, p)
 
   module _ (choice : ℕ) (ok : Bool) (read : numberBelow (2 ^ 8) (fieldOf fields 2) ≡ taken ok choice) where
-    pub sync-bad : not ok ≡ true → syncCall fields serial clock ≡ none
-    unfolding syncCall
+    pub sync-bad : not ok ≡ true → syncLine fields serial clock ≡ none
+    unfolding syncLine taken
     sync-bad t = rw (read, not-true ok t)
 
     pub sync-read : {password following : List ℕ} → not ok ≡ false → password ≡ fieldOf fields 3 → following ≡ fieldOf fields 4
-        → syncCall fields serial clock ≡ some (DeskCall.named (Request.sync choice password following) serial clock)
-    unfolding syncCall
+        → syncLine fields serial clock ≡ some (syncCall choice password following serial clock)
+    unfolding syncLine taken
     sync-read t p q = rw (read, not-false ok t, p, q)
 
   module _ (p : Particulars) (ok : Bool) {digits : List ℕ} {r : Decoded} (read : particularsOf fields serial clock ≡ taken ok p) (same : digits ≡ fieldOf fields 7)
       (key : r ≡ decodedOf digits) where
-    pub load-bad : not (ok && r .ok) ≡ true → TurnedDown passwords s (loadCall fields serial clock)
-    unfolding loadCall made
-    load-bad t = rw (read, ← same) (bad ok (not-true (ok && r .ok) t))
+    pub load-bad : (passwords : PasswordRule) (s : List ℕ) → not (ok && r .ok) ≡ true → TurnedDown passwords s (loadLine fields serial clock)
+    unfolding loadLine made taken
+    load-bad passwords s t = rw (read, ← same) (bad ok (not-true (ok && r .ok) t))
       where
         bad : (b : Bool) → b && r .ok ≡ false → TurnedDown passwords s (given (taken b p) (λ q. given (hexOf digits) (λ k. some (DeskCall.load q k))))
-        bad false e = (refl, refl)
+        bad false e = refl
         bad true e =
-            hex-bad (λ o. TurnedDown passwords s (given o (λ k. some (DeskCall.load p k)))) (refl, refl)
-            (λ k l. rw (long-key passwords s p k l) (refl, refl)) (hexOf digits) (rw (← key) e)
+            hex-bad (λ o. TurnedDown passwords s (given o (λ k. some (DeskCall.load p k)))) refl
+            (λ k l. rw (long-key passwords s p k l)) (hexOf digits) (rw (← key) e)
 
-    pub load-read : {k : List ℕ} → ok ≡ true → hexOf (fieldOf fields 7) ≡ some k → loadCall fields serial clock ≡ some (DeskCall.load p k)
-    unfolding loadCall
-    load-read t e = rw (read, t, e)
+    module _ (t : not (ok && r .ok) ≡ false) where
+      decoded-key : (hexOf (fieldOf fields 7) ≡ some (take (r .len - 0) (drop 0 (r .bytes)))) × (r .len ≤ length (r .bytes))
+      decoded-key = bytes-decoded same key (and-right ok (r .ok) (not-false (ok && r .ok) t))
+
+      pub key-within : r .len ≤ length (r .bytes)
+      key-within = decoded-key .1
+
+      pub load-read : loadLine fields serial clock ≡ some (DeskCall.load p (take (r .len - 0) (drop 0 (r .bytes))))
+      unfolding loadLine taken
+      load-read = rw (read, and-left ok (r .ok) (not-false (ok && r .ok) t), decoded-key .0)
 
 -- six numbers are the particulars where each of them was right
 module _ (fields : List (List ℕ)) (serial expiry kind algorithm digits period limit wait : ℕ) where
@@ -182,13 +169,13 @@ module _ (fields : List (List ℕ)) (serial expiry kind algorithm digits period 
       ≡ taken (k && a && d && p && l && w)
       (record {
         serial = serial;
-        rule = record { kind = kind; algorithm = algorithm; digits = digits };
+        scheme = record { kind = kind; algorithm = algorithm; digits = digits };
         period = period;
         limit = limit;
         wait = wait;
         expiry = record { 0 = expiry };
       })
-  unfolding particularsOf
+  unfolding particularsOf taken
   all-taken false a d p l w e f g h i j = rw e
   all-taken true false d p l w e f g h i j = rw (e, f)
   all-taken true true false p l w e f g h i j = rw (e, f, g)
@@ -226,7 +213,7 @@ module _ (line : List ℕ) where
     module _ (right-count : not right ≡ false) (serial clock : ℕ) (a b : Bool) (one : numberBelow (2 ^ 64) (fieldOf (fieldsOf line) 1) ≡ taken a serial)
         (last : numberBelow (2 ^ 64) (fieldOf (fieldsOf line) (count - 1)) ≡ taken b clock) where
       pub line-unread : not (a && b) ≡ true → callOf line ≡ none
-      unfolding fieldsCall
+      unfolding fieldsCall taken
       line-unread t = rw (by-name, ← counts, ← counted, not-false right right-count, one, last) (both a b (not-true (a && b) t))
         where
           both : (a b : Bool) → a && b ≡ false → given (taken a serial) (λ x. given (taken b clock) (λ y. callBy name (fieldsOf line) x y)) ≡ none
@@ -234,12 +221,18 @@ module _ (line : List ℕ) where
           both true b e = rw e
 
       pub line-read : not (a && b) ≡ false → callOf line ≡ callBy name (fieldsOf line) serial clock
-      unfolding fieldsCall
+      unfolding fieldsCall taken
       line-read t = rw (by-name, ← counts, ← counted, not-false right right-count, one, last) (both a b (not-false (a && b) t))
         where
           both : (a b : Bool) → a && b ≡ true → given (taken a serial) (λ x. given (taken b clock) (λ y. callBy name (fieldsOf line) x y)) ≡ callBy name (fieldsOf line) serial clock
-          both false b e = let z : _≡_ {A = ℕ} 0 1 = cc in absurd (omega arith)
+          both false b e = impossible (cc)
           both true b e = rw e
+
+-- the answer's text is printed, and the table is as the call left it
+pub line-left : (passwords : PasswordRule) (line s : List ℕ) {answer : Answer} {after : List ℕ} {text : Printed}
+    → result answer after ≡ made passwords (callOf line) s → text ≡ printedOf (answerText answer) → left text after ≡ lineLeft passwords line s
+unfolding lineAfter lineLeft
+line-left passwords line s {answer} {after} {text} m p = rw (p, ← m)
 
 -- every line has at most ten fields
 pub count-small : (name : Name) {count : ℕ} → count ≡ countOf name → count ≤ 10

@@ -9,12 +9,12 @@ use borrow.Author.Tests.{lt-ltb, le-ltb, le-leb, lt-leb}
 use lib.Dec.{ltb, lit≤}
 use lib.ListN.{length, set, take, drop, replicate, length-append, length-set, length-take, length-drop, drop-of-length-le}
 use lib.Seq.{drop-cons, drop-set-lt, getD-set-same, append-snoc, take-append-seam, drop-append-add, drop-drop, take-length, take-all}
-use Rattle.words.specs.ListsLaws.{by-test, drop-zeros}
+use Rattle.words.specs.ListsLaws.{drop-zeros}
+use Rattle.words.specs.BoolLaws.{by-test}
 use Rattle.text.specs.Text.{comma}
 use Rattle.window.specs.declared.Offset.{Offset}
 use Rattle.window.specs.declared.Step.{Step}
 use Rattle.window.specs.Window.{farthest}
-use Rattle.token.specs.declared.calls.Call.{Call}
 use Rattle.token.specs.declared.answers.Status.{Status}
 use Rattle.token.specs.declared.answers.Content.{Content}
 use Rattle.token.specs.declared.answers.Refusal.{Refusal}
@@ -22,6 +22,7 @@ use Rattle.token.specs.declared.answers.Answer.{Answer}
 use Rattle.token.specs.Codes.{signedOf, numberOf, valuesOf}
 use Rattle.call_lines.specs.declared.Printed.{Printed}
 use Rattle.call_lines.specs.Line.{codeText, decimalDigits, decimalText, signedText, valuesText, answerText, printedOf}
+use Rattle.call_lines.specs.Puts.{Puts}
 
 -- ---- decimal digits
 
@@ -86,10 +87,6 @@ decimal-few k x l = digits-few 20 k x l
 
 -- ---- text behind text
 
--- b is a with x behind its text
-abbrev pub Puts : Printed → List ℕ → Printed → Type 0
-Puts a x b = (t : List ℕ) → a ≡ printedOf t → b ≡ printedOf (t ++ x)
-
 pub puts-both : (x y : List ℕ) {a b c : Printed} → Puts a x b → Puts b y c → Puts a (x ++ y) c
 puts-both x y p q t e = q (t ++ x) (p t e) ∙ ap printedOf (append-assoc t x y)
 
@@ -133,14 +130,14 @@ module _ {code : Printed} {content : Content} where
   put-checked {step} {offset} e p q =
       rw (e, append-nil (signedText (signedOf offset))) (puts-both (comma ∷ decimalText (step .0)) (comma ∷ signedText (signedOf offset)) p q)
 
-  pub put-told : {status : Status} {a b r : Printed} → content ≡ Content.Told status
-      → Puts code (comma ∷ decimalText (status .state)) a → Puts a (comma ∷ decimalText (status .errors)) b → Puts b (comma ∷ decimalText (status .used .0)) r
+  pub put-queried : {status : Status} {a b r : Printed} → content ≡ Content.Queried status
+      → Puts code (comma ∷ decimalText (status .state)) a → Puts a (comma ∷ decimalText (status .errors)) b → Puts b (comma ∷ decimalText (status .«last_use» .0)) r
       → Puts code (valuesText (valuesOf content)) r
   unfolding valuesOf valuesText
-  put-told {status} e p q s =
-      rw (e, append-nil (decimalText (status .used .0)))
-      (puts-both (comma ∷ decimalText (status .state)) ((comma ∷ decimalText (status .errors)) ++ (comma ∷ decimalText (status .used .0))) p
-      (puts-both (comma ∷ decimalText (status .errors)) (comma ∷ decimalText (status .used .0)) q s))
+  put-queried {status} e p q s =
+      rw (e, append-nil (decimalText (status .«last_use» .0)))
+      (puts-both (comma ∷ decimalText (status .state)) ((comma ∷ decimalText (status .errors)) ++ (comma ∷ decimalText (status .«last_use» .0))) p
+      (puts-both (comma ∷ decimalText (status .errors)) (comma ∷ decimalText (status .«last_use» .0)) q s))
 
 -- ---- the answer
 
@@ -149,7 +146,7 @@ module _ (answer : Answer) {number : ℕ} {code : Printed} (numbered : number �
   unfolding printedOf codeText
   code-length = rw printed
 
-  pub success-text : {call : Call} {content : Content} {r : Printed} → answer ≡ Answer.Success call content → Puts code (valuesText (valuesOf content)) r → r ≡ printedOf (answerText answer)
+  pub success-text : {n : ℕ} {content : Content} {r : Printed} → answer ≡ Answer.Success n content → Puts code (valuesText (valuesOf content)) r → r ≡ printedOf (answerText answer)
   unfolding answerText
   success-text e p = p (codeText number) printed ∙ rw (numbered, e)
 

@@ -21,15 +21,15 @@ use desk::void;
 use text::hex;
 use token::Answer;
 use token::Refusal;
-use window::Rule;
+use window::Scheme;
 use window::Seconds;
 ghost use mathlib.Core.Path.{_≡_};
 ghost use Prim.Native.Nat.{_≤_};
 ghost use lib.ListN.{length};
 ghost use Rattle.text.specs.Text.{fieldsOf};
 ghost use Rattle.window.specs.PasswordAt.{passwordAt};
-ghost use Rattle.call_lines.specs.Line.{particularsOf, loadCall, challengeCall, syncCall, callBy, callOf, made};
-ghost use Rattle.call_lines.specs.LineLaws.{taken};
+ghost use Rattle.desk.specs.Desk.{result};
+ghost use Rattle.call_lines.specs.Line.{taken, particularsOf, loadLine, challengeLine, syncLine, callBy, callOf, made};
 
 const LONGEST: usize = 4096;
 
@@ -55,7 +55,7 @@ fn particulars_of(line: &[u8], serial: u64, expiry: Seconds) -> LoadRead
     let wait = number_at(line, 8, LARGEST_WORD);
     let particulars = Particulars {
         serial,
-        rule: Rule {
+        scheme: Scheme {
             kind: kind.value,
             algorithm: algorithm.value,
             digits: digits.value,
@@ -74,8 +74,7 @@ fn particulars_of(line: &[u8], serial: u64, expiry: Seconds) -> LoadRead
 // A line of a load, of which SERIAL and EXPIRY were read.
 fn load_line(table: &mut [u8], line: &[u8], serial: u64, expiry: Seconds) -> Answer
     requires { ⌜ length (now line) ≤ 4096 ⌝ }
-    ensures { λ r. ⌜ r ≡ made passwordAt (loadCall (fieldsOf (now (line .entry))) serial (expiry .0)) (now (table .entry)) .answer ⌝ }
-    ensures { λ _. ⌜ now (table .exit) ≡ made passwordAt (loadCall (fieldsOf (now (line .entry))) serial (expiry .0)) (now (table .entry)) .table ⌝ }
+    ensures { λ r. ⌜ result r (now (table .exit)) ≡ made passwordAt (loadLine (fieldsOf (now (line .entry))) serial (expiry .0)) (now (table .entry)) ⌝ }
 {
     let read = particulars_of(line, serial, expiry);
     let key = hex(field(line, 7));
@@ -91,8 +90,7 @@ fn load_line(table: &mut [u8], line: &[u8], serial: u64, expiry: Seconds) -> Ans
 // A line of a challenge login.
 fn challenge_line(table: &mut [u8], line: &[u8], serial: u64, clock: Seconds) -> Answer
     requires { ⌜ length (now line) ≤ 4096 ⌝ }
-    ensures { λ r. ⌜ r ≡ made passwordAt (challengeCall (fieldsOf (now (line .entry))) serial (clock .0)) (now (table .entry)) .answer ⌝ }
-    ensures { λ _. ⌜ now (table .exit) ≡ made passwordAt (challengeCall (fieldsOf (now (line .entry))) serial (clock .0)) (now (table .entry)) .table ⌝ }
+    ensures { λ r. ⌜ result r (now (table .exit)) ≡ made passwordAt (challengeLine (fieldsOf (now (line .entry))) serial (clock .0)) (now (table .entry)) ⌝ }
 {
     let challenge = hex(field(line, 2));
     if !challenge.ok {
@@ -106,8 +104,7 @@ fn challenge_line(table: &mut [u8], line: &[u8], serial: u64, clock: Seconds) ->
 // A line of a sync.
 fn sync_line(table: &mut [u8], line: &[u8], serial: u64, clock: Seconds) -> Answer
     requires { ⌜ length (now line) ≤ 4096 ⌝ }
-    ensures { λ r. ⌜ r ≡ made passwordAt (syncCall (fieldsOf (now (line .entry))) serial (clock .0)) (now (table .entry)) .answer ⌝ }
-    ensures { λ _. ⌜ now (table .exit) ≡ made passwordAt (syncCall (fieldsOf (now (line .entry))) serial (clock .0)) (now (table .entry)) .table ⌝ }
+    ensures { λ r. ⌜ result r (now (table .exit)) ≡ made passwordAt (syncLine (fieldsOf (now (line .entry))) serial (clock .0)) (now (table .entry)) ⌝ }
 {
     let choice = byte_at(line, 2);
     if !choice.ok {
@@ -126,8 +123,7 @@ fn sync_line(table: &mut [u8], line: &[u8], serial: u64, clock: Seconds) -> Answ
 // A line of the name's count of fields, of which SERIAL and the time at the end were read.
 fn named_line(table: &mut [u8], line: &[u8], name: Name, serial: u64, clock: Seconds) -> Answer
     requires { ⌜ length (now line) ≤ 4096 ⌝ }
-    ensures { λ r. ⌜ r ≡ made passwordAt (callBy name (fieldsOf (now (line .entry))) serial (clock .0)) (now (table .entry)) .answer ⌝ }
-    ensures { λ _. ⌜ now (table .exit) ≡ made passwordAt (callBy name (fieldsOf (now (line .entry))) serial (clock .0)) (now (table .entry)) .table ⌝ }
+    ensures { λ r. ⌜ result r (now (table .exit)) ≡ made passwordAt (callBy name (fieldsOf (now (line .entry))) serial (clock .0)) (now (table .entry)) ⌝ }
 {
     match name {
         Name::Load => load_line(table, line, serial, clock),
@@ -147,8 +143,7 @@ fn named_line(table: &mut [u8], line: &[u8], name: Name, serial: u64, clock: Sec
 
 // Makes the call of a line.
 pub(crate) fn line_call(table: &mut [u8], line: &[u8]) -> Answer
-    ensures { λ r. ⌜ r ≡ made passwordAt (callOf (now (line .entry))) (now (table .entry)) .answer ⌝ }
-    ensures { λ _. ⌜ now (table .exit) ≡ made passwordAt (callOf (now (line .entry))) (now (table .entry)) .table ⌝ }
+    ensures { λ r. ⌜ result r (now (table .exit)) ≡ made passwordAt (callOf (now (line .entry))) (now (table .entry)) ⌝ }
 {
     if LONGEST < line.len() {
         return Answer::Refused(Refusal::BadArgument);

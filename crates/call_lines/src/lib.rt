@@ -10,7 +10,7 @@ use printing::answer_text;
 ghost use mathlib.Core.Path.{_≡_};
 ghost use Prim.Native.Nat.{_≤_};
 ghost use Rattle.window.specs.PasswordAt.{passwordAt};
-ghost use Rattle.call_lines.specs.Line.{lineAfter, printedOf};
+ghost use Rattle.call_lines.specs.Line.{left, lineLeft};
 
 // What is printed for a line: the first `len` bytes; zeros stand behind them.
 pub struct Printed {
@@ -20,9 +20,8 @@ pub struct Printed {
 
 // Makes the call of a line on the table, and answers what is printed, without the line feed.
 pub fn serve_line(table: &mut [u8], line: &[u8]) -> Printed
-    ensures { λ r. ⌜ r ≡ printedOf (lineAfter passwordAt (now (line .entry)) (now (table .entry)) .text) ⌝ }
+    ensures { λ r. ⌜ left r (now (table .exit)) ≡ lineLeft passwordAt (now (line .entry)) (now (table .entry)) ⌝ }
     ensures { λ r. ⌜ r .len ≤ 40 ⌝ }
-    ensures { λ _. ⌜ now (table .exit) ≡ lineAfter passwordAt (now (line .entry)) (now (table .entry)) .table ⌝ }
 {
     answer_text(line_call(table, line))
 }

@@ -14,7 +14,7 @@ ghost use lib.ListN.{length, take, drop};
 ghost use Rattle.text.specs.Text.{comma};
 ghost use Rattle.token.specs.Codes.{signedOf, valuesOf};
 ghost use Rattle.call_lines.specs.Line.{codeText, decimalText, signedText, valuesText, answerText, printedOf};
-ghost use Rattle.call_lines.specs.PrintingLaws.{Puts};
+ghost use Rattle.call_lines.specs.Puts.{Puts};
 
 // The digits of a number: the bytes from start on.
 pub struct Digits {
@@ -119,10 +119,10 @@ fn put_content(code: Printed, content: Content) -> Printed
     match content {
         Content::Plain => code,
         Content::Checked(step, offset) => put_offset(put_number(code, step.0), offset),
-        Content::Told(status) => {
+        Content::Queried(status) => {
             let state = put_number(code, status.state as u64);
             let errors = put_number(state, status.errors as u64);
-            put_number(errors, status.used.0)
+            put_number(errors, status.last_use.0)
         }
     }
 }

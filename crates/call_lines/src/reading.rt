@@ -6,8 +6,7 @@ ghost use mathlib.Core.Path.{_≡_};
 ghost use Prim.Native.Nat.{_+_, _≤_, _^_};
 ghost use lib.ListN.{length};
 ghost use Rattle.text.specs.Text.{fieldsOf};
-ghost use Rattle.call_lines.specs.Line.{fieldOf, numberBelow};
-ghost use Rattle.call_lines.specs.LineLaws.{taken};
+ghost use Rattle.call_lines.specs.Line.{fieldOf, numberBelow, taken};
 
 const LARGEST_BYTE: u64 = 0xff;
 

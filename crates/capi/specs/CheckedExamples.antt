@@ -8,9 +8,9 @@ use Rattle.words.specs.Lists.{allWithin}
 use Rattle.window.specs.declared.Outcome.{Outcome}
 use Rattle.window.specs.declared.Outcome.the-variants.{Accepted, Used, Wrong}
 use Rattle.otp.specs.Password.{challengeOk, argumentsOk}
+use Rattle.otp.specs.Typed.{passwordOk}
 use Rattle.row.specs.Row.{trackOk}
-use Rattle.desk.specs.Requests.{passwordOk}
-use Rattle.capi.specs.Checked.{trackOf, passwordsOk, checkArgumentsOk, outcomeLeft}
+use Rattle.capi.specs.Checked.{trackOf, checkNumbersOk, passwordsOk, checkArgumentsOk, outcomeLeft}
 
 -- n bytes of one value: 0x30 to 0x39 are digits
 abbrev some : ℕ → ℕ → List ℕ
@@ -81,11 +81,11 @@ refused =
     ∷ []
 
 pub examples-taken : taken ≡ replicate 10 true
-unfolding argumentsOk challengeOk allWithin passwordOk trackOk passwordsOk checkArgumentsOk
+unfolding argumentsOk challengeOk allWithin passwordOk trackOk checkNumbersOk passwordsOk checkArgumentsOk
 examples-taken = refl
 
 pub examples-refused : refused ≡ replicate 31 false
-unfolding argumentsOk challengeOk allWithin passwordOk trackOk passwordsOk checkArgumentsOk
+unfolding argumentsOk challengeOk allWithin passwordOk trackOk checkNumbersOk passwordsOk checkArgumentsOk
 examples-refused = refl
 
 -- ---- the outcomes

@@ -1,67 +1,135 @@
 -- The ways through dl_check.
-use Prim.Native.Nat.{ℕ, _<_, _^_}
+use Prim.Native.Nat.{ℕ, _≤_, _<_, _^_}
 use mathlib.Core.Path.{_≡_, refl, sym, _∙_}
-use mathlib.Core.Bool.{Bool, true, false, not, _&&_}
+use mathlib.Core.Bool.{Bool, true, false, not, _&&_, _||_, cond}
 use mathlib.Core.List.{List, [], _∷_}
 use native.Mathlib.Omega.{arith}
-use borrow.Author.Tests.{not-true, not-false, ltb-true, eq-eqb, ne-eqb}
+use borrow.Author.Tests.{not-true, not-false, ltb-true, eq-eqb, ne-eqb, eqb-true}
 use lib.Dec.{eqb, ltb}
 use lib.ListN.{length, drop, set}
-use Rattle.words.specs.Tables.{and-left, and-right}
-use Rattle.words.specs.ListsLaws.{and-true}
+use Rattle.words.specs.BoolLaws.{and-left, and-right, and-false, by-test, impossible}
 use Rattle.words.specs.Codes.{badArgument}
+use Rattle.otp.specs.declared.typed.Password.{Password}
+use Rattle.otp.specs.declared.typed.Typed.{Typed}
+use Rattle.otp.specs.Typed.{passwordOk, typedOf}
+use Rattle.otp.specs.TypedLaws.{digits-back, typed-is, typed-bad}
 use Rattle.window.specs.declared.Size.{Size}
 use Rattle.window.specs.declared.Track.{Track}
 use Rattle.window.specs.declared.Outcome.{Outcome}
+use Rattle.window.specs.declared.asked.Asked.{Asked}
 use Rattle.window.specs.Window.{Sound}
-use Rattle.window.specs.PasswordAt.{inRange}
-use Rattle.window.specs.TokenCheck.{checkOf}
+use Rattle.window.specs.PasswordAt.{passwordAt, inRange}
+use Rattle.window.specs.Asked.{outcomeOf}
 use Rattle.row.specs.Row.{trackOk}
-use Rattle.row.specs.RowLaws.{track-sound}
-use Rattle.desk.specs.Requests.{clockOk, passwordOk}
-use Rattle.capi.specs.Checked.{sizeOf, passwordsOk, checkArgumentsOk, outcomeLeft, checkLeft}
+use Rattle.row.specs.RangeLaws.{track-sound}
+use Rattle.desk.specs.Requests.{clockOk}
+use Rattle.capi.specs.declared.checking.Presented.{Presented}
+use Rattle.capi.specs.Stored.{left}
+use Rattle.capi.specs.Checked.{sizeOf, checkNumbersOk, passwordsOk, checkArgumentsOk, askedOf, presentedOf, checkOf, outcomeLeft, checkLeft}
 
-module _ (challenge presented following : List ℕ) {p : Bool} (e : p ≡ passwordOk presented) where
-  pub one-password : length following ≡ 0 → p ≡ passwordsOk challenge presented following
-  unfolding passwordsOk
-  one-password z = rw (eq-eqb (length following) 0 z) (e ∙ sym (and-true (passwordOk presented)))
+-- ---- what is asked
 
-  pub two-passwords : {f : Bool} → (length following ≡ 0 → ⊥) → f ≡ passwordOk following
-      → p && (eqb (length challenge) 0 && f) ≡ passwordsOk challenge presented following
-  unfolding passwordsOk
-  two-passwords n i = rw (e, i, ne-eqb (length following) 0 n)
+module _ (size : Size) (challenge presented following : List ℕ) {x : Typed} (first : x ≡ typedOf presented) where
+  pub presented-bad : x ≡ Typed.Bad → Presented.Bad ≡ presentedOf size challenge presented following
+  unfolding presentedOf passwordsOk
+  presented-bad b = rw (typed-bad presented first b)
 
-module _ (k : Track) (clock size : ℕ) (key challenge presented following out : List ℕ) {b : Bool}
-    (tested : b ≡ checkArgumentsOk k clock size key challenge presented following) where
-  pub check-refused : not (b && ltb 0 (length out)) ≡ true
-      → (badArgument ≡ checkLeft k clock size key challenge presented following out .code) × (out ≡ checkLeft k clock size key challenge presented following out .out)
-  unfolding checkLeft
-  check-refused t = rw (← tested, not-true (b && ltb 0 (length out)) t) (refl, refl)
+  module _ {p : Password} (is : x ≡ Typed.Is p) where
+    ok : passwordOk presented ≡ true
+    ok = typed-is presented first is .0
+
+    pub presented-one : length following ≡ 0 → length challenge ≡ 0 → Presented.Is (Asked.One size p) ≡ presentedOf size challenge presented following
+    unfolding presentedOf passwordsOk
+    presented-one n e = rw (ok, eq-eqb (length following) 0 n, eq-eqb (length challenge) 0 e, typed-is presented first is .1)
+
+    pub presented-challenged : length following ≡ 0 → (length challenge ≡ 0 → ⊥) → Presented.Is (Asked.Challenged size p) ≡ presentedOf size challenge presented following
+    unfolding presentedOf passwordsOk
+    presented-challenged n e = rw (ok, eq-eqb (length following) 0 n, ne-eqb (length challenge) 0 e, typed-is presented first is .1)
+
+    module _ (n : length following ≡ 0 → ⊥) {y : Typed} (second : y ≡ typedOf following) where
+      pub following-bad : y ≡ Typed.Bad → Presented.Bad ≡ presentedOf size challenge presented following
+      unfolding presentedOf passwordsOk
+      following-bad b = rw (ok, ne-eqb (length following) 0 n, typed-bad following second b, and-false (eqb (length challenge) 0))
+
+      module _ {q : Password} (and : y ≡ Typed.Is q) where
+        pub presented-two : length challenge ≤ 0 → Presented.Is (Asked.Two size p q) ≡ presentedOf size challenge presented following
+        unfolding presentedOf passwordsOk
+        presented-two e =
+            rw (ok, ne-eqb (length following) 0 n, eq-eqb (length challenge) 0 (omega arith), typed-is following second and .0, typed-is presented first is .1, typed-is following second and .1)
+
+        pub pair-challenged : 0 < length challenge → Presented.Bad ≡ presentedOf size challenge presented following
+        unfolding presentedOf passwordsOk
+        pair-challenged l = rw (ok, ne-eqb (length following) 0 n, ne-eqb (length challenge) 0 (λ e. omega arith))
+
+-- ---- what the check finds
+
+no-bytes : (s : List ℕ) → length s ≡ 0 → s ≡ []
+no-bytes [] e = refl
+no-bytes (x ∷ s) e = absurd (omega arith)
+
+-- what is asked has the outcome of the passwords as presented
+asked-outcome : (k : Track) (clock : ℕ) (size : Size) (key challenge presented following : List ℕ) → passwordsOk challenge presented following ≡ true
+    → outcomeOf passwordAt k clock key challenge (askedOf size challenge presented following) ≡ checkOf k clock size key challenge presented following
+unfolding passwordsOk checkOf
+asked-outcome k clock size key challenge presented following t =
+    let first = digits-back presented (and-left (passwordOk presented) (eqb (length following) 0 || (eqb (length challenge) 0 && passwordOk following)) t) in
+    by-test (eqb (length following) 0)
+    (λ n. by-test (eqb (length challenge) 0)
+    (λ e. rw (n, e, first, no-bytes challenge (eqb-true (length challenge) 0 e)))
+    (λ e. rw (n, e, first)))
+    (λ n.
+    let rest : eqb (length challenge) 0 && passwordOk following ≡ true = rw n at (and-right (passwordOk presented) (eqb (length following) 0 || (eqb (length challenge) 0 && passwordOk following)) t) in
+    rw (n, first, digits-back following (and-right (eqb (length challenge) 0) (passwordOk following) rest)))
+
+module _ (k : Track) (clock size : ℕ) (key challenge out : List ℕ) {b : Bool} (tested : b ≡ checkNumbersOk k clock size key challenge) where
+  pub check-refused : (presented following : List ℕ) → not (b && ltb 0 (length out)) ≡ true
+      → left badArgument out ≡ checkLeft k clock size key challenge presented following out
+  unfolding checkArgumentsOk checkLeft
+  check-refused presented following t =
+      rw (← tested) (turned b (passwordsOk challenge presented following) (ltb 0 (length out)) (not-true (b && ltb 0 (length out)) t))
+    where
+      turned : (b p o : Bool) → b && o ≡ false → left badArgument out ≡ cond (b && p && o) (outcomeLeft (checkOf k clock (sizeOf size) key challenge presented following) out) (left badArgument out)
+      turned false p o e = refl
+      turned true p o e = rw (e, and-false p)
 
   module _ (t : not (b && ltb 0 (length out)) ≡ false) where
     passed : b && ltb 0 (length out) ≡ true
     passed = not-false (b && ltb 0 (length out)) t
 
-    ranged : checkArgumentsOk k clock size key challenge presented following ≡ true
+    ranged : checkNumbersOk k clock size key challenge ≡ true
     ranged = sym tested ∙ and-left b (ltb 0 (length out)) passed
 
     pub check-room : 0 < length out
     check-room = ltb-true 0 (length out) (and-right b (ltb 0 (length out)) passed)
 
     -- what the check asks for
-    pub check-asked : Sound k clock × (inRange (k .rule) key challenge ≡ true)
-    unfolding checkArgumentsOk
+    pub check-asked : Sound k clock × (inRange (k .scheme) key challenge ≡ true)
+    unfolding checkNumbersOk
     check-asked =
-        let r : checkArgumentsOk k clock size key challenge presented following ≡ true = ranged in
+        let r : checkNumbersOk k clock size key challenge ≡ true = ranged in
         let c : clockOk clock ≡ true = search (and-left, and-right) depth 8 in
         let o : trackOk k ≡ true = search (and-left, and-right) depth 8 in
-        let i : inRange (k .rule) key challenge ≡ true = search (and-left, and-right) depth 8 in
+        let i : inRange (k .scheme) key challenge ≡ true = search (and-left, and-right) depth 8 in
         (track-sound k o clock (ltb-true clock (2 ^ 40) c), i)
 
-    pub check-made : {z : Size} {o : Outcome} → z ≡ sizeOf size → o ≡ checkOf k clock z key challenge presented following
-        → outcomeLeft o out ≡ checkLeft k clock size key challenge presented following out
-    unfolding checkLeft
-    check-made e m = rw (← tested, passed, ← e, m)
+    module _ (presented following : List ℕ) {z : Size} {x : Presented} (sized : z ≡ sizeOf size) (read : x ≡ presentedOf z challenge presented following) where
+      pub check-unread : x ≡ Presented.Bad → left badArgument out ≡ checkLeft k clock size key challenge presented following out
+      unfolding presentedOf checkArgumentsOk checkLeft
+      check-unread e =
+          by-test (passwordsOk challenge presented following)
+          (λ p. let y : Presented.Is (askedOf z challenge presented following) ≡ Presented.Bad = sym (read ∙ rw p) ∙ e in impossible (cc))
+          (λ p. rw (p, and-false (checkNumbersOk k clock size key challenge)))
+
+      pub check-made : {asked : Asked} {o : Outcome} → x ≡ Presented.Is asked → o ≡ outcomeOf passwordAt k clock key challenge asked
+          → outcomeLeft o out ≡ checkLeft k clock size key challenge presented following out
+      unfolding presentedOf checkArgumentsOk checkLeft
+      check-made {asked} e m =
+          by-test (passwordsOk challenge presented following)
+          (λ p.
+          let y : Presented.Is (askedOf z challenge presented following) ≡ Presented.Is asked = sym (read ∙ rw p) ∙ e in
+          let a : asked ≡ askedOf z challenge presented following = cc in
+          rw (ranged, p, and-right b (ltb 0 (length out)) passed, m, a, asked-outcome k clock z key challenge presented following p, sized))
+          (λ p. let y : Presented.Bad ≡ Presented.Is asked = sym (read ∙ rw p) ∙ e in impossible (cc))
 
 -- the first element is written
 pub write-first : (s : List ℕ) (x : ℕ) → 0 < length s → set s 0 x ≡ x ∷ drop 1 s

@@ -5,20 +5,21 @@ use mathlib.Core.List.{List, [], _∷_, _++_}
 use lib.Dec.{leb}
 use lib.ListN.{length, drop}
 use Rattle.words.specs.Codes.{badArgument}
+use Rattle.words.specs.Output.{Left}
 use Rattle.window.specs.PasswordAt.{passwordAt}
 use Rattle.token.specs.declared.answers.Content.{Content}
 use Rattle.token.specs.declared.answers.Answer.{Answer}
 use Rattle.token.specs.Codes.{Signed, numberOf, valuesOf}
-use Rattle.token.specs.OnTable.{Result}
 use Rattle.desk.specs.declared.Particulars.{Particulars}
 use Rattle.desk.specs.Requests.{DeskCall}
-use Rattle.desk.specs.Desk.{deskAfter}
+use Rattle.desk.specs.Desk.{Result, deskAfter}
+use Rattle.capi.specs.Stored.{left}
 
 abbrev pub particularsOf : ℕ → ℕ → ℕ → ℕ → ℕ → ℕ → ℕ → ℕ → Particulars
 particularsOf serial kind algorithm digits period limit wait expiry =
     record {
       serial = serial;
-      rule = record { kind = kind; algorithm = algorithm; digits = digits };
+      scheme = record { kind = kind; algorithm = algorithm; digits = digits };
       period = period;
       limit = limit;
       wait = wait;
@@ -30,6 +31,9 @@ pub record DeskLeft : Type 0 where
   pub code : ℕ
   pub table : List ℕ
   pub values : List ℕ
+
+abbrev pub leftWith : ℕ → List ℕ → List ℕ → DeskLeft
+leftWith code s values = record { code = code; table = s; values = values }
 
 -- the most values that a success carries
 abbrev pub mostValues : ℕ
@@ -49,13 +53,17 @@ abbrev pub contentLeft : Content → List ℕ → List ℕ
 contentLeft content values = words (valuesOf content) ++ drop (length (words (valuesOf content))) values
 
 abbrev pub answerLeft : Answer → List ℕ → List ℕ
-answerLeft (Answer.Success call content) values = contentLeft content values
+answerLeft (Answer.Success number content) values = contentLeft content values
 answerLeft (Answer.Refused refusal) values = values
 
 abbrev pub resultLeft : Result → List ℕ → DeskLeft
-resultLeft r values = record { code = numberOf (r .answer); table = r .table; values = answerLeft (r .answer) values }
+resultLeft r values = leftWith (numberOf (r .answer)) (r .table) (answerLeft (r .answer) values)
 
 -- fewer than three values are a bad argument
 unfoldable pub deskLeft : DeskCall → List ℕ → List ℕ → DeskLeft
 deskLeft call s values =
-    cond (leb mostValues (length values)) (resultLeft (deskAfter passwordAt call s) values) (record { code = badArgument; table = s; values = values })
+    cond (leb mostValues (length values)) (resultLeft (deskAfter passwordAt call s) values) (leftWith badArgument s values)
+
+-- a call whose success carries nothing has no values
+unfoldable pub plainLeft : DeskCall → List ℕ → Left
+plainLeft call s = left (numberOf (deskAfter passwordAt call s .answer)) (deskAfter passwordAt call s .table)

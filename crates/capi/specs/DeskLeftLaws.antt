@@ -14,8 +14,9 @@ use Rattle.token.specs.declared.answers.Content.{Content}
 use Rattle.token.specs.declared.answers.Answer.{Answer}
 use Rattle.token.specs.Codes.{signedOf, valuesOf, numberOf}
 use Rattle.desk.specs.Requests.{DeskCall}
-use Rattle.desk.specs.Desk.{deskAfter}
-use Rattle.capi.specs.DeskLeft.{word, contentLeft, answerLeft, deskLeft}
+use Rattle.desk.specs.Desk.{result, deskAfter}
+use Rattle.capi.specs.Stored.{left}
+use Rattle.capi.specs.DeskLeft.{leftWith, word, contentLeft, answerLeft, deskLeft, plainLeft}
 
 -- ---- an offset as a word
 
@@ -41,24 +42,25 @@ checked-written [] room step d e = absurd (omega arith)
 checked-written (x ∷ []) room step d e = absurd (omega arith)
 checked-written (x ∷ y ∷ values) room step d e = ap (λ (w : ℕ). step .0 ∷ w ∷ values) e
 
-pub told-written : (values : List ℕ) → 3 ≤ length values → (status : Status)
-    → set (set (set values 0 (status .state)) 1 (status .errors)) 2 (status .used .0) ≡ contentLeft (Content.Told status) values
+pub queried-written : (values : List ℕ) → 3 ≤ length values → (status : Status)
+    → set (set (set values 0 (status .state)) 1 (status .errors)) 2 (status .«last_use» .0) ≡ contentLeft (Content.Queried status) values
 unfolding valuesOf
-told-written [] room status = absurd (omega arith)
-told-written (x ∷ []) room status = absurd (omega arith)
-told-written (x ∷ y ∷ []) room status = absurd (omega arith)
-told-written (x ∷ y ∷ z ∷ values) room status = refl
+queried-written [] room status = absurd (omega arith)
+queried-written (x ∷ []) room status = absurd (omega arith)
+queried-written (x ∷ y ∷ []) room status = absurd (omega arith)
+queried-written (x ∷ y ∷ z ∷ values) room status = refl
 
 -- ---- the desk's answer
 
-module _ (call : DeskCall) (s values : List ℕ) where
-  pub left-short : length values < 3
-      → (badArgument ≡ deskLeft call s values .code) × ((s ≡ deskLeft call s values .table) × (values ≡ deskLeft call s values .values))
-  unfolding deskLeft
-  left-short l = rw (lt-leb 3 (length values) l) (refl, (refl, refl))
+module _ (call : DeskCall) (s : List ℕ) {answer : Answer} {after : List ℕ} (made : result answer after ≡ deskAfter passwordAt call s) {code : ℕ} (numbered : code ≡ numberOf answer) where
+  pub left-plain : left code after ≡ plainLeft call s
+  unfolding plainLeft
+  left-plain = rw (numbered, ← made)
 
-  pub left-told : 3 ≤ length values → {answer : Answer} {code : ℕ} {table after : List ℕ} → answer ≡ deskAfter passwordAt call s .answer
-      → table ≡ deskAfter passwordAt call s .table → code ≡ numberOf answer → after ≡ answerLeft answer values
-      → (code ≡ deskLeft call s values .code) × ((table ≡ deskLeft call s values .table) × (after ≡ deskLeft call s values .values))
+  pub left-answered : (values : List ℕ) → 3 ≤ length values → {carried : List ℕ} → carried ≡ answerLeft answer values → leftWith code after carried ≡ deskLeft call s values
   unfolding deskLeft
-  left-told room a t n v = rw (le-leb 3 (length values) room, ← a) (n, (t, v))
+  left-answered values room e = rw (le-leb 3 (length values) room, numbered, e, ← made)
+
+pub left-short : (call : DeskCall) (s values : List ℕ) → length values < 3 → leftWith badArgument s values ≡ deskLeft call s values
+unfolding deskLeft
+left-short call s values l = rw (lt-leb 3 (length values) l)

@@ -1,5 +1,6 @@
 -- What the C functions leave in their lent outputs.
 pub mod Stored
+pub mod StoredLaws
 pub mod Checked
 pub mod CheckedLaws
 pub mod CheckedExamples

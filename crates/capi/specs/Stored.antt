@@ -10,6 +10,10 @@ use Rattle.otp.specs.declared.Factor.the-variants.{Absent, Present}
 use Rattle.sm3.specs.Sm3.{sm3Answer}
 use Rattle.sm4.specs.Sm4.{keysAnswer, encryptAnswer, sm4Answer}
 
+-- a code that is given, and an output as it is left
+abbrev pub left : ℕ → List ℕ → Left
+left code out = record { code = code; out = out }
+
 abbrev pub sm3Left : List ℕ → List ℕ → Left
 sm3Left message out = stored (sm3Answer message .code) (sm3Answer message .digest) out
 

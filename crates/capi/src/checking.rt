@@ -1,10 +1,12 @@
 // The check of a token's window, for callers who keep the token's numbers themselves.
-use desk::password_ok;
+use otp::typed::Typed;
+use otp::typed::password_of;
 use row::track_ok;
+use window::Asked;
 use window::CLOCKS;
 use window::Offset;
 use window::Outcome;
-use window::Rule;
+use window::Scheme;
 use window::Seconds;
 use window::Size;
 use window::Step;
@@ -16,7 +18,8 @@ use words::codes::DONE;
 ghost use mathlib.Core.Path.{_≡_};
 ghost use Prim.Native.Nat.{_<_};
 ghost use lib.ListN.{length};
-ghost use Rattle.capi.specs.Checked.{trackOf, sizeOf, passwordsOk, checkArgumentsOk, outcomeLeft, checkLeft};
+ghost use Rattle.capi.specs.Stored.{left};
+ghost use Rattle.capi.specs.Checked.{trackOf, sizeOf, presentedOf, checkNumbersOk, outcomeLeft, checkLeft};
 
 const WRONG: u16 = 0x8002;
 
@@ -35,39 +38,47 @@ fn size_of(number: u8) -> Size
     Size::Large
 }
 
-// Whether one password is presented, or two as a pair, which has no challenge.
-fn passwords_ok(challenge: &[u8], presented: &[u8], following: &[u8]) -> bool
-    ensures { λ r. ⌜ r ≡ passwordsOk (now (challenge .entry)) (now (presented .entry)) (now (following .entry)) ⌝ }
-{
-    if following.len() == 0 {
-        return password_ok(presented);
-    }
-    password_ok(presented) & ((challenge.len() == 0) & password_ok(following))
+// What is asked of the window, where the passwords are in range.
+pub enum Presented {
+    Is(Asked),
+    Bad,
 }
 
-// Whether the arguments are in the ranges of document 01, Parts 2 to 4.
-fn arguments_ok(
-    track: Track,
-    clock: Seconds,
-    size: u8,
-    key: &[u8],
-    challenge: &[u8],
-    presented: &[u8],
-    following: &[u8],
-) -> bool
-    ensures { λ r. ⌜ r ≡ checkArgumentsOk track (clock .0) size (now (key .entry)) (now (challenge .entry)) (now (presented .entry)) (now (following .entry)) ⌝ }
+// One password, with its challenge where there is one, or two as a pair, which has no challenge.
+fn presented_of(size: Size, challenge: &[u8], presented: &[u8], following: &[u8]) -> Presented
+    ensures { λ r. ⌜ r ≡ presentedOf size (now (challenge .entry)) (now (presented .entry)) (now (following .entry)) ⌝ }
 {
-    in_range(track.rule, key, challenge)
+    let Typed::Is(p) = password_of(presented) else {
+        return Presented::Bad;
+    };
+    if following.len() == 0 {
+        if challenge.len() == 0 {
+            return Presented::Is(Asked::One(size, p));
+        }
+        return Presented::Is(Asked::Challenged(size, p));
+    }
+    let Typed::Is(q) = password_of(following) else {
+        return Presented::Bad;
+    };
+    if 0 < challenge.len() {
+        return Presented::Bad;
+    }
+    Presented::Is(Asked::Two(size, p, q))
+}
+
+// Whether the other arguments are in the ranges of document 01, Parts 2 to 4.
+fn numbers_ok(track: Track, clock: Seconds, size: u8, key: &[u8], challenge: &[u8]) -> bool
+    ensures { λ r. ⌜ r ≡ checkNumbersOk track (clock .0) size (now (key .entry)) (now (challenge .entry)) ⌝ }
+{
+    in_range(track.scheme, key, challenge)
         & ((clock.0 < CLOCKS) & ((1 <= size) & (size <= 3)))
-        & passwords_ok(challenge, presented, following)
         & track_ok(track)
 }
 
 // The outcome's code, and an accepted step in the first element of step.
 fn put_outcome(outcome: Outcome, step: &mut [u64]) -> u16
     requires { ⌜ 0 < length (now step) ⌝ }
-    ensures { λ r. ⌜ r ≡ outcomeLeft outcome (now (step .entry)) .code ⌝ }
-    ensures { λ _. ⌜ now (step .exit) ≡ outcomeLeft outcome (now (step .entry)) .out ⌝ }
+    ensures { λ r. ⌜ left r (now (step .exit)) ≡ outcomeLeft outcome (now (step .entry)) ⌝ }
 {
     match outcome {
         Outcome::Accepted(s) => {
@@ -96,11 +107,10 @@ pub extern "C" fn dl_check(
     following: &[u8],
     step: &mut [u64],
 ) -> u16
-    ensures { λ r. ⌜ r ≡ checkLeft (trackOf kind algorithm digits period next offset) clock size (now (key .entry)) (now (challenge .entry)) (now (presented .entry)) (now (following .entry)) (now (step .entry)) .code ⌝ }
-    ensures { λ _. ⌜ now (step .exit) ≡ checkLeft (trackOf kind algorithm digits period next offset) clock size (now (key .entry)) (now (challenge .entry)) (now (presented .entry)) (now (following .entry)) (now (step .entry)) .out ⌝ }
+    ensures { λ r. ⌜ left r (now (step .exit)) ≡ checkLeft (trackOf kind algorithm digits period next offset) clock size (now (key .entry)) (now (challenge .entry)) (now (presented .entry)) (now (following .entry)) (now (step .entry)) ⌝ }
 {
     let track = Track {
-        rule: Rule {
+        scheme: Scheme {
             kind,
             algorithm,
             digits,
@@ -109,26 +119,13 @@ pub extern "C" fn dl_check(
         next: Step(next),
         offset: Offset(offset),
     };
-    let ok = arguments_ok(
-        track,
-        Seconds(clock),
-        size,
-        key,
-        challenge,
-        presented,
-        following,
-    );
+    let ok = numbers_ok(track, Seconds(clock), size, key, challenge);
     if !(ok & (0 < step.len())) {
         return BAD_ARGUMENT;
     }
-    let outcome = check(
-        track,
-        Seconds(clock),
-        size_of(size),
-        key,
-        challenge,
-        presented,
-        following,
-    );
+    let Presented::Is(asked) = presented_of(size_of(size), challenge, presented, following) else {
+        return BAD_ARGUMENT;
+    };
+    let outcome = check(track, Seconds(clock), key, challenge, asked);
     put_outcome(outcome, step)
 }

@@ -13,15 +13,13 @@ use desk::sync;
 use desk::unlock;
 use desk::void;
 use token::number_of;
-use window::Rule;
+use window::Scheme;
 use window::Seconds;
 use words::codes::BAD_ARGUMENT;
 ghost use mathlib.Core.Path.{_≡_};
-ghost use Rattle.window.specs.PasswordAt.{passwordAt};
-ghost use Rattle.token.specs.Codes.{numberOf};
-ghost use Rattle.desk.specs.Requests.{Request, DeskCall};
-ghost use Rattle.desk.specs.Desk.{deskAfter};
-ghost use Rattle.capi.specs.DeskLeft.{particularsOf, deskLeft};
+ghost use Rattle.desk.specs.Requests.{DeskCall, loginCall, challengeCall, activateCall, lockCall, unlockCall, suspendCall, resumeCall, syncCall, voidCall, queryCall};
+ghost use Rattle.capi.specs.Stored.{left};
+ghost use Rattle.capi.specs.DeskLeft.{particularsOf, leftWith, deskLeft, plainLeft};
 
 const MOST_VALUES: usize = 3;
 
@@ -34,9 +32,7 @@ pub extern "C" fn dl_login(
     password: &[u8],
     values: &mut [u64],
 ) -> u16
-    ensures { λ r. ⌜ r ≡ deskLeft (DeskCall.named (Request.login (now (password .entry))) serial clock) (now (table .entry)) (now (values .entry)) .code ⌝ }
-    ensures { λ _. ⌜ now (table .exit) ≡ deskLeft (DeskCall.named (Request.login (now (password .entry))) serial clock) (now (table .entry)) (now (values .entry)) .table ⌝ }
-    ensures { λ _. ⌜ now (values .exit) ≡ deskLeft (DeskCall.named (Request.login (now (password .entry))) serial clock) (now (table .entry)) (now (values .entry)) .values ⌝ }
+    ensures { λ r. ⌜ leftWith r (now (table .exit)) (now (values .exit)) ≡ deskLeft (loginCall (now (password .entry)) serial clock) (now (table .entry)) (now (values .entry)) ⌝ }
 {
     if values.len() < MOST_VALUES {
         return BAD_ARGUMENT;
@@ -55,9 +51,7 @@ pub extern "C" fn dl_challenge_login(
     password: &[u8],
     values: &mut [u64],
 ) -> u16
-    ensures { λ r. ⌜ r ≡ deskLeft (DeskCall.named (Request.challengeLogin (now (challenge .entry)) (now (password .entry))) serial clock) (now (table .entry)) (now (values .entry)) .code ⌝ }
-    ensures { λ _. ⌜ now (table .exit) ≡ deskLeft (DeskCall.named (Request.challengeLogin (now (challenge .entry)) (now (password .entry))) serial clock) (now (table .entry)) (now (values .entry)) .table ⌝ }
-    ensures { λ _. ⌜ now (values .exit) ≡ deskLeft (DeskCall.named (Request.challengeLogin (now (challenge .entry)) (now (password .entry))) serial clock) (now (table .entry)) (now (values .entry)) .values ⌝ }
+    ensures { λ r. ⌜ leftWith r (now (table .exit)) (now (values .exit)) ≡ deskLeft (challengeCall (now (challenge .entry)) (now (password .entry)) serial clock) (now (table .entry)) (now (values .entry)) ⌝ }
 {
     if values.len() < MOST_VALUES {
         return BAD_ARGUMENT;
@@ -76,9 +70,7 @@ pub extern "C" fn dl_activate(
     following: &[u8],
     values: &mut [u64],
 ) -> u16
-    ensures { λ r. ⌜ r ≡ deskLeft (DeskCall.named (Request.activate (now (password .entry)) (now (following .entry))) serial clock) (now (table .entry)) (now (values .entry)) .code ⌝ }
-    ensures { λ _. ⌜ now (table .exit) ≡ deskLeft (DeskCall.named (Request.activate (now (password .entry)) (now (following .entry))) serial clock) (now (table .entry)) (now (values .entry)) .table ⌝ }
-    ensures { λ _. ⌜ now (values .exit) ≡ deskLeft (DeskCall.named (Request.activate (now (password .entry)) (now (following .entry))) serial clock) (now (table .entry)) (now (values .entry)) .values ⌝ }
+    ensures { λ r. ⌜ leftWith r (now (table .exit)) (now (values .exit)) ≡ deskLeft (activateCall (now (password .entry)) (now (following .entry)) serial clock) (now (table .entry)) (now (values .entry)) ⌝ }
 {
     if values.len() < MOST_VALUES {
         return BAD_ARGUMENT;
@@ -90,8 +82,7 @@ pub extern "C" fn dl_activate(
 // The call `lock`.
 #[no_mangle]
 pub extern "C" fn dl_lock(table: &mut [u8], serial: u64, clock: u64) -> u16
-    ensures { λ r. ⌜ r ≡ numberOf (deskAfter passwordAt (DeskCall.named Request.lock serial clock) (now (table .entry)) .answer) ⌝ }
-    ensures { λ _. ⌜ now (table .exit) ≡ deskAfter passwordAt (DeskCall.named Request.lock serial clock) (now (table .entry)) .table ⌝ }
+    ensures { λ r. ⌜ left r (now (table .exit)) ≡ plainLeft (lockCall serial clock) (now (table .entry)) ⌝ }
 {
     number_of(lock(table, serial, Seconds(clock)))
 }
@@ -105,9 +96,7 @@ pub extern "C" fn dl_unlock(
     password: &[u8],
     values: &mut [u64],
 ) -> u16
-    ensures { λ r. ⌜ r ≡ deskLeft (DeskCall.named (Request.unlock (now (password .entry))) serial clock) (now (table .entry)) (now (values .entry)) .code ⌝ }
-    ensures { λ _. ⌜ now (table .exit) ≡ deskLeft (DeskCall.named (Request.unlock (now (password .entry))) serial clock) (now (table .entry)) (now (values .entry)) .table ⌝ }
-    ensures { λ _. ⌜ now (values .exit) ≡ deskLeft (DeskCall.named (Request.unlock (now (password .entry))) serial clock) (now (table .entry)) (now (values .entry)) .values ⌝ }
+    ensures { λ r. ⌜ leftWith r (now (table .exit)) (now (values .exit)) ≡ deskLeft (unlockCall (now (password .entry)) serial clock) (now (table .entry)) (now (values .entry)) ⌝ }
 {
     if values.len() < MOST_VALUES {
         return BAD_ARGUMENT;
@@ -119,8 +108,7 @@ pub extern "C" fn dl_unlock(
 // The call `suspend`.
 #[no_mangle]
 pub extern "C" fn dl_suspend(table: &mut [u8], serial: u64, clock: u64) -> u16
-    ensures { λ r. ⌜ r ≡ numberOf (deskAfter passwordAt (DeskCall.named Request.suspend serial clock) (now (table .entry)) .answer) ⌝ }
-    ensures { λ _. ⌜ now (table .exit) ≡ deskAfter passwordAt (DeskCall.named Request.suspend serial clock) (now (table .entry)) .table ⌝ }
+    ensures { λ r. ⌜ left r (now (table .exit)) ≡ plainLeft (suspendCall serial clock) (now (table .entry)) ⌝ }
 {
     number_of(suspend(table, serial, Seconds(clock)))
 }
@@ -134,9 +122,7 @@ pub extern "C" fn dl_resume(
     password: &[u8],
     values: &mut [u64],
 ) -> u16
-    ensures { λ r. ⌜ r ≡ deskLeft (DeskCall.named (Request.resume (now (password .entry))) serial clock) (now (table .entry)) (now (values .entry)) .code ⌝ }
-    ensures { λ _. ⌜ now (table .exit) ≡ deskLeft (DeskCall.named (Request.resume (now (password .entry))) serial clock) (now (table .entry)) (now (values .entry)) .table ⌝ }
-    ensures { λ _. ⌜ now (values .exit) ≡ deskLeft (DeskCall.named (Request.resume (now (password .entry))) serial clock) (now (table .entry)) (now (values .entry)) .values ⌝ }
+    ensures { λ r. ⌜ leftWith r (now (table .exit)) (now (values .exit)) ≡ deskLeft (resumeCall (now (password .entry)) serial clock) (now (table .entry)) (now (values .entry)) ⌝ }
 {
     if values.len() < MOST_VALUES {
         return BAD_ARGUMENT;
@@ -156,9 +142,7 @@ pub extern "C" fn dl_sync(
     following: &[u8],
     values: &mut [u64],
 ) -> u16
-    ensures { λ r. ⌜ r ≡ deskLeft (DeskCall.named (Request.sync choice (now (password .entry)) (now (following .entry))) serial clock) (now (table .entry)) (now (values .entry)) .code ⌝ }
-    ensures { λ _. ⌜ now (table .exit) ≡ deskLeft (DeskCall.named (Request.sync choice (now (password .entry)) (now (following .entry))) serial clock) (now (table .entry)) (now (values .entry)) .table ⌝ }
-    ensures { λ _. ⌜ now (values .exit) ≡ deskLeft (DeskCall.named (Request.sync choice (now (password .entry)) (now (following .entry))) serial clock) (now (table .entry)) (now (values .entry)) .values ⌝ }
+    ensures { λ r. ⌜ leftWith r (now (table .exit)) (now (values .exit)) ≡ deskLeft (syncCall choice (now (password .entry)) (now (following .entry)) serial clock) (now (table .entry)) (now (values .entry)) ⌝ }
 {
     if values.len() < MOST_VALUES {
         return BAD_ARGUMENT;
@@ -170,8 +154,7 @@ pub extern "C" fn dl_sync(
 // The call `void`.
 #[no_mangle]
 pub extern "C" fn dl_void(table: &mut [u8], serial: u64, clock: u64) -> u16
-    ensures { λ r. ⌜ r ≡ numberOf (deskAfter passwordAt (DeskCall.named Request.void serial clock) (now (table .entry)) .answer) ⌝ }
-    ensures { λ _. ⌜ now (table .exit) ≡ deskAfter passwordAt (DeskCall.named Request.void serial clock) (now (table .entry)) .table ⌝ }
+    ensures { λ r. ⌜ left r (now (table .exit)) ≡ plainLeft (voidCall serial clock) (now (table .entry)) ⌝ }
 {
     number_of(void(table, serial, Seconds(clock)))
 }
@@ -179,8 +162,7 @@ pub extern "C" fn dl_void(table: &mut [u8], serial: u64, clock: u64) -> u16
 // The call `query`.
 #[no_mangle]
 pub extern "C" fn dl_query(table: &[u8], serial: u64, clock: u64, values: &mut [u64]) -> u16
-    ensures { λ r. ⌜ r ≡ deskLeft (DeskCall.named Request.query serial clock) (now (table .entry)) (now (values .entry)) .code ⌝ }
-    ensures { λ _. ⌜ now (values .exit) ≡ deskLeft (DeskCall.named Request.query serial clock) (now (table .entry)) (now (values .entry)) .values ⌝ }
+    ensures { λ r. ⌜ leftWith r (now (table .entry)) (now (values .exit)) ≡ deskLeft (queryCall serial clock) (now (table .entry)) (now (values .entry)) ⌝ }
 {
     if values.len() < MOST_VALUES {
         return BAD_ARGUMENT;
@@ -203,12 +185,11 @@ pub extern "C" fn dl_load(
     wait: u32,
     expiry: u64,
 ) -> u16
-    ensures { λ r. ⌜ r ≡ numberOf (deskAfter passwordAt (DeskCall.load (particularsOf serial kind algorithm digits period limit wait expiry) (now (key .entry))) (now (table .entry)) .answer) ⌝ }
-    ensures { λ _. ⌜ now (table .exit) ≡ deskAfter passwordAt (DeskCall.load (particularsOf serial kind algorithm digits period limit wait expiry) (now (key .entry))) (now (table .entry)) .table ⌝ }
+    ensures { λ r. ⌜ left r (now (table .exit)) ≡ plainLeft (DeskCall.load (particularsOf serial kind algorithm digits period limit wait expiry) (now (key .entry))) (now (table .entry)) ⌝ }
 {
     let particulars = Particulars {
         serial,
-        rule: Rule {
+        scheme: Scheme {
             kind,
             algorithm,
             digits,

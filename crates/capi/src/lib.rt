@@ -13,13 +13,12 @@ use sm4::sm4;
 use store::store;
 use store::store_words;
 ghost use mathlib.Core.Path.{_≡_};
-ghost use Rattle.capi.specs.Stored.{factorOf, passwordLeft, sm3Left, sm4Left, keysLeft, encryptLeft};
+ghost use Rattle.capi.specs.Stored.{left, factorOf, passwordLeft, sm3Left, sm4Left, keysLeft, encryptLeft};
 
 // SM3 of the message, into the first 32 bytes of out.
 #[no_mangle]
 pub extern "C" fn dl_sm3(message: &[u8], out: &mut [u8]) -> u16
-    ensures { λ r. ⌜ r ≡ sm3Left (now (message .entry)) (now (out .entry)) .code ⌝ }
-    ensures { λ _. ⌜ now (out .exit) ≡ sm3Left (now (message .entry)) (now (out .entry)) .out ⌝ }
+    ensures { λ r. ⌜ left r (now (out .exit)) ≡ sm3Left (now (message .entry)) (now (out .entry)) ⌝ }
 {
     let hash = sm3(message);
     let digest = hash.digest;
@@ -29,8 +28,7 @@ pub extern "C" fn dl_sm3(message: &[u8], out: &mut [u8]) -> u16
 // SM4 of the block under the key, into the first 16 bytes of out.
 #[no_mangle]
 pub extern "C" fn dl_sm4(key: &[u8], block: &[u8], out: &mut [u8]) -> u16
-    ensures { λ r. ⌜ r ≡ sm4Left (now (key .entry)) (now (block .entry)) (now (out .entry)) .code ⌝ }
-    ensures { λ _. ⌜ now (out .exit) ≡ sm4Left (now (key .entry)) (now (block .entry)) (now (out .entry)) .out ⌝ }
+    ensures { λ r. ⌜ left r (now (out .exit)) ≡ sm4Left (now (key .entry)) (now (block .entry)) (now (out .entry)) ⌝ }
 {
     let cipher = sm4(key, block);
     let made = cipher.block;
@@ -40,8 +38,7 @@ pub extern "C" fn dl_sm4(key: &[u8], block: &[u8], out: &mut [u8]) -> u16
 // The 32 round keys of the key, into the first words of out.
 #[no_mangle]
 pub extern "C" fn dl_sm4_keys(key: &[u8], out: &mut [u32]) -> u16
-    ensures { λ r. ⌜ r ≡ keysLeft (now (key .entry)) (now (out .entry)) .code ⌝ }
-    ensures { λ _. ⌜ now (out .exit) ≡ keysLeft (now (key .entry)) (now (out .entry)) .out ⌝ }
+    ensures { λ r. ⌜ left r (now (out .exit)) ≡ keysLeft (now (key .entry)) (now (out .entry)) ⌝ }
 {
     let keys = round_keys(key);
     let made = keys.words;
@@ -51,8 +48,7 @@ pub extern "C" fn dl_sm4_keys(key: &[u8], out: &mut [u32]) -> u16
 // SM4 of the block under round keys, into the first 16 bytes of out.
 #[no_mangle]
 pub extern "C" fn dl_sm4_encrypt(keys: &[u32], block: &[u8], out: &mut [u8]) -> u16
-    ensures { λ r. ⌜ r ≡ encryptLeft (now (keys .entry)) (now (block .entry)) (now (out .entry)) .code ⌝ }
-    ensures { λ _. ⌜ now (out .exit) ≡ encryptLeft (now (keys .entry)) (now (block .entry)) (now (out .entry)) .out ⌝ }
+    ensures { λ r. ⌜ left r (now (out .exit)) ≡ encryptLeft (now (keys .entry)) (now (block .entry)) (now (out .entry)) ⌝ }
 {
     let encrypted = encrypt(keys, block);
     let made = encrypted.block;
@@ -82,8 +78,7 @@ pub extern "C" fn dl_password(
     digits: u8,
     out: &mut [u8],
 ) -> u16
-    ensures { λ r. ⌜ r ≡ passwordLeft algorithm (now (key .entry)) «has_time» time «has_count» count (now (challenge .entry)) digits (now (out .entry)) .code ⌝ }
-    ensures { λ _. ⌜ now (out .exit) ≡ passwordLeft algorithm (now (key .entry)) «has_time» time «has_count» count (now (challenge .entry)) digits (now (out .entry)) .out ⌝ }
+    ensures { λ r. ⌜ left r (now (out .exit)) ≡ passwordLeft algorithm (now (key .entry)) «has_time» time «has_count» count (now (challenge .entry)) digits (now (out .entry)) ⌝ }
 {
     let at = factor(has_time, time);
     let number = factor(has_count, count as u64);

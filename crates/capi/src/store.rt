@@ -5,10 +5,10 @@ use words::codes::DONE;
 use words::word::copy_words;
 ghost use mathlib.Core.Path.{_≡_};
 ghost use Rattle.words.specs.Output.{stored};
+ghost use Rattle.capi.specs.Stored.{left};
 
 pub(crate) fn store(code: u16, result: &[u8], out: &mut [u8]) -> u16
-    ensures { λ r. ⌜ r ≡ stored code (now (result .entry)) (now (out .entry)) .code ⌝ }
-    ensures { λ _. ⌜ now (out .exit) ≡ stored code (now (result .entry)) (now (out .entry)) .out ⌝ }
+    ensures { λ r. ⌜ left r (now (out .exit)) ≡ stored code (now (result .entry)) (now (out .entry)) ⌝ }
 {
     if code != DONE {
         return BAD_ARGUMENT;
@@ -21,8 +21,7 @@ pub(crate) fn store(code: u16, result: &[u8], out: &mut [u8]) -> u16
 }
 
 pub(crate) fn store_words(code: u16, result: &[u32], out: &mut [u32]) -> u16
-    ensures { λ r. ⌜ r ≡ stored code (now (result .entry)) (now (out .entry)) .code ⌝ }
-    ensures { λ _. ⌜ now (out .exit) ≡ stored code (now (result .entry)) (now (out .entry)) .out ⌝ }
+    ensures { λ r. ⌜ left r (now (out .exit)) ≡ stored code (now (result .entry)) (now (out .entry)) ⌝ }
 {
     if code != DONE {
         return BAD_ARGUMENT;

@@ -34,10 +34,10 @@ fn put_content(content: Content, values: &mut [u64])
             values[0] = step.0;
             values[1] = signed(offset);
         }
-        Content::Told(status) => {
+        Content::Queried(status) => {
             values[0] = status.state as u64;
             values[1] = status.errors as u64;
-            values[2] = status.used.0;
+            values[2] = status.last_use.0;
         }
     }
 }

@@ -9,17 +9,18 @@ use lib.ListN.{replicate}
 use Rattle.words.specs.Bytes.{beAt, beBytes, putBe}
 use Rattle.words.specs.Lists.{sameBytes, allZero, allWithin}
 use Rattle.otp.specs.Password.{decimals, challengeOk}
+use Rattle.otp.specs.Numbers.{numberFrom}
+use Rattle.otp.specs.Typed.{passwordOk, digitsOf}
 use Rattle.window.specs.Window.{timeCandidate, candidate, beyond}
 use Rattle.window.specs.Check.{smallest, checked}
 use Rattle.window.specs.TokenCheck.{singleCheck, pairCheck}
-use Rattle.row.specs.Row.{rowAt, numberTests, numbersOk, zerosOk, wellFormed}
-use Rattle.row.specs.Table.{hasSerial, firstRow, findRow, findEmpty, storeRow, wipeKey}
+use Rattle.row.specs.Row.{rowBytes, rowAt, numberTests, numbersOk, zerosOk, wellFormed}
+use Rattle.row.specs.Table.{hasSerial, firstRow, findRow, findEmpty, located, storeRow, wipeKey}
 use Rattle.token.specs.Codes.{numberOf}
-use Rattle.token.specs.States.{waitOver, waited, moved, accepted, failed}
-use Rattle.token.specs.Serving.{serving, served, querying}
-use Rattle.token.specs.OnTable.{Result, servedAt, queriedAt}
-use Rattle.desk.specs.Requests.{Request, DeskCall, tableOk, passwordOk, challengeGiven, requestOk, loadOk}
-use Rattle.desk.specs.Desk.{requestedAt, deskAfter}
+use Rattle.token.specs.States.{waitOver, waited, withState, accepted, failed}
+use Rattle.token.specs.Deciding.{deciding, decided}
+use Rattle.desk.specs.Requests.{Request, DeskCall, tableOk, challengeGiven, requestOk, loadOk}
+use Rattle.desk.specs.Desk.{Result, servedAt, deskAfter}
 use Rattle.desk.specs.CallLines.{rowWith, bySteps}
 
 -- a ready token with the serial 9 is all of the table
@@ -108,7 +109,7 @@ refusedCalls =
 abbrev pub loading : ℕ → ℕ → ℕ → ℕ → ℕ → ℕ → ℕ → ℕ → ℕ → DeskCall
 loading serial kind algorithm digits period limit keyLength wait expiry =
     DeskCall.load
-    (record { serial = serial; rule = record { kind = kind; algorithm = algorithm; digits = digits }; period = period; limit = limit; wait = wait; expiry = record { 0 = expiry } })
+    (record { serial = serial; scheme = record { kind = kind; algorithm = algorithm; digits = digits }; period = period; limit = limit; wait = wait; expiry = record { 0 = expiry } })
     (replicate keyLength 7)
 
 abbrev pub takenLoads : List DeskCall
@@ -140,18 +141,18 @@ refusedLoads =
     ∷ []
 
 pub arguments-hold : (allTaken takenCalls && allRefused refusedCalls) && (allTaken takenLoads && allRefused refusedLoads) ≡ true
-unfolding beAt beBytes putBe sameBytes allZero allWithin decimals challengeOk timeCandidate candidate beyond smallest checked singleCheck pairCheck
-    rowAt numberTests numbersOk zerosOk wellFormed hasSerial firstRow findRow findEmpty storeRow wipeKey
-    waitOver waited moved accepted failed serving served querying servedAt queriedAt tableOk passwordOk challengeGiven requestOk loadOk requestedAt deskAfter
+unfolding beAt beBytes putBe sameBytes allZero allWithin decimals challengeOk passwordOk numberFrom digitsOf timeCandidate candidate beyond smallest checked singleCheck pairCheck
+    rowAt numberTests numbersOk zerosOk wellFormed hasSerial firstRow findRow findEmpty located storeRow wipeKey
+    waitOver waited withState accepted failed deciding decided servedAt tableOk challengeGiven requestOk loadOk deskAfter
 arguments-hold = refl
 
 -- ---- the table has 96 times 1 to 256 bytes
 
 abbrev pub takenLengths : Bool
-takenLengths = tableOk (replicate 96 0) && tableOk (replicate (96 * 256) 0)
+takenLengths = tableOk rowBytes (replicate 96 0) && tableOk rowBytes (replicate (96 * 256) 0)
 
 abbrev pub refusedLengths : Bool
-refusedLengths = (not (tableOk []) && not (tableOk (replicate 95 0))) && (not (tableOk (replicate 97 0)) && not (tableOk (replicate (96 * 257) 0)))
+refusedLengths = (not (tableOk rowBytes []) && not (tableOk rowBytes (replicate 95 0))) && (not (tableOk rowBytes (replicate 97 0)) && not (tableOk rowBytes (replicate (96 * 257) 0)))
 
 pub table-lengths-hold : takenLengths && refusedLengths ≡ true
 unfolding tableOk

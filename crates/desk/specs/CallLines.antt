@@ -12,9 +12,8 @@ use Rattle.window.specs.PasswordAt.{PasswordRule}
 use Rattle.token.specs.declared.answers.Answer.{Answer}
 use Rattle.token.specs.Codes.{numberOf, Signed, valuesOf}
 use Rattle.token.specs.Codes.Signed.{plus, minus}
-use Rattle.token.specs.OnTable.{Result}
 use Rattle.desk.specs.Requests.{Request, DeskCall}
-use Rattle.desk.specs.Desk.{deskAfter}
+use Rattle.desk.specs.Desk.{Result, deskAfter}
 use Rattle.desk.specs.Demand1Bytes.{Change, laid}
 
 -- ---- rows
@@ -58,10 +57,10 @@ pub record Line : Type 0 where
 
 -- the password of step s is s, and 1000 more for each byte of the challenge
 abbrev pub bySteps : PasswordRule
-bySteps rule key challenge s = decimals (rule .digits) (s + 1000 * length challenge)
+bySteps scheme key challenge s = decimals (scheme .digits) (s + 1000 * length challenge)
 
 abbrev pub carried : Answer → List Signed
-carried (Answer.Success call content) = valuesOf content
+carried (Answer.Success number content) = valuesOf content
 carried (Answer.Refused refusal) = []
 
 abbrev pub sameSigned : Signed → Signed → Bool

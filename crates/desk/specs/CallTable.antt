@@ -8,18 +8,19 @@ use lib.ListN.{replicate}
 use Rattle.words.specs.Bytes.{beAt, beBytes, putBe}
 use Rattle.words.specs.Lists.{sameBytes, allZero, allWithin}
 use Rattle.otp.specs.Password.{decimals, challengeOk}
+use Rattle.otp.specs.Numbers.{numberFrom}
+use Rattle.otp.specs.Typed.{passwordOk, digitsOf}
 use Rattle.window.specs.Window.{timeCandidate, candidate, beyond}
 use Rattle.window.specs.Check.{smallest, checked}
 use Rattle.window.specs.TokenCheck.{singleCheck, pairCheck}
 use Rattle.row.specs.Row.{rowAt, beforeKey, stepBytes, timeBytes, render, numberTests, numbersOk, zerosOk, wellFormed}
-use Rattle.row.specs.Table.{hasSerial, firstRow, findRow, findEmpty, storeRow, wipeKey, writeRow}
+use Rattle.row.specs.Table.{hasSerial, firstRow, findRow, findEmpty, located, storeRow, wipeKey, writeRow}
 use Rattle.token.specs.Codes.{signedOf, valuesOf}
 use Rattle.token.specs.Codes.Signed.{plus, minus}
-use Rattle.token.specs.States.{waitOver, waited, moved, accepted, failed}
-use Rattle.token.specs.Serving.{serving, served, querying}
-use Rattle.token.specs.OnTable.{servedAt, queriedAt}
-use Rattle.desk.specs.Requests.{Request, DeskCall, tableOk, passwordOk, challengeGiven, requestOk, loadOk}
-use Rattle.desk.specs.Desk.{requestedAt, deskAfter}
+use Rattle.token.specs.States.{waitOver, waited, withState, accepted, failed}
+use Rattle.token.specs.Deciding.{deciding, decided}
+use Rattle.desk.specs.Requests.{Request, DeskCall, tableOk, challengeGiven, requestOk, loadOk}
+use Rattle.desk.specs.Desk.{servedAt, deskAfter}
 use Rattle.desk.specs.Demand1Bytes.{Change, laid, state, errors, zeroKey, next, offset, lockedAt, lastUse}
 use Rattle.desk.specs.CallLines.{rowWith, sixRows, Cell, cell, no, Line, line, allHold}
 
@@ -42,8 +43,8 @@ abbrev pub voided : List Change → Cell
 voided more = cell 0x010a [] (state 6 ∷ zeroKey ∷ more)
 
 -- a query carries the state, the errors and the last use
-abbrev pub told : ℕ → ℕ → Cell
-told inState counted = cell 0x010b (plus inState ∷ plus counted ∷ plus 500 ∷ []) []
+abbrev pub queried : ℕ → ℕ → Cell
+queried inState counted = cell 0x010b (plus inState ∷ plus counted ∷ plus 500 ∷ []) []
 
 abbrev pub acceptedLines : List Line
 acceptedLines =
@@ -68,7 +69,7 @@ acceptedLines =
     ∷ line Request.void 1059
     (voided []) (voided []) (voided (lockedAt 0 ∷ [])) (voided []) (voided []) (no 0x8407)
     ∷ line Request.query 1059
-    (told 1 2) (told 2 2) (told 3 2) (told 4 2) (told 5 2) (told 6 2)
+    (queried 1 2) (queried 2 2) (queried 3 2) (queried 4 2) (queried 5 2) (queried 6 2)
     ∷ []
 
 -- ---- used and wrong (clock 1059): each call's codes; an error more, and the lock at the limit by the two logins alone
@@ -161,7 +162,7 @@ waitedLines =
     (voided []) (voided []) (voided (errors 0 ∷ lockedAt 0 ∷ [])) (voided []) (voided []) (no 0x8407)
     -- a query tells it, and writes nothing
     ∷ line Request.query 1060
-    (told 1 2) (told 2 2) (told 2 0) (told 4 2) (told 5 2) (told 6 2)
+    (queried 1 2) (queried 2 2) (queried 2 0) (queried 4 2) (queried 5 2) (queried 6 2)
     ∷ []
 
 -- ---- at the expiry (clock 5000) every checked call is refused in the states in which it is made, and no other call
@@ -193,7 +194,7 @@ expiredLines =
     ∷ line Request.void 5000
     (voided []) (voided []) (voided (errors 0 ∷ lockedAt 0 ∷ [])) (voided []) (voided []) (no 0x8407)
     ∷ line Request.query 5000
-    (told 1 2) (told 2 2) (told 2 0) (told 4 2) (told 5 2) (told 6 2)
+    (queried 1 2) (queried 2 2) (queried 2 0) (queried 4 2) (queried 5 2) (queried 6 2)
     ∷ []
 
 -- ---- load looks at states and serials only, and sets all 96 bytes of an empty row
@@ -201,7 +202,7 @@ expiredLines =
 abbrev pub loadOf : ℕ → DeskCall
 loadOf serial =
     DeskCall.load
-    (record { serial = serial; rule = record { kind = 0; algorithm = 4; digits = 8 }; period = 30; limit = 5; wait = 600; expiry = record { 0 = 7000 } })
+    (record { serial = serial; scheme = record { kind = 0; algorithm = 4; digits = 8 }; period = 30; limit = 5; wait = 600; expiry = record { 0 = 7000 } })
     (replicate 20 9)
 
 -- state 1, errors 0, next 0, d 0, not locked, never used
@@ -297,8 +298,7 @@ markedLines =
 pub call-table-holds
     : ((allHold acceptedLines && allHold usedLines) && (allHold wrongLines && allHold miscountedLines)) && ((allHold waitedLines && allHold expiredLines) && (allHold loadLines && (allHold foundLines && allHold markedLines)))
     ≡ true
-unfolding beAt beBytes putBe sameBytes allZero allWithin decimals challengeOk timeCandidate candidate beyond smallest checked singleCheck pairCheck
-    rowAt beforeKey stepBytes timeBytes render numberTests numbersOk zerosOk wellFormed hasSerial firstRow findRow findEmpty storeRow wipeKey writeRow
-    signedOf valuesOf waitOver waited moved accepted failed serving served querying servedAt queriedAt
-    tableOk passwordOk challengeGiven requestOk loadOk requestedAt deskAfter
+unfolding beAt beBytes putBe sameBytes allZero allWithin decimals challengeOk passwordOk numberFrom digitsOf timeCandidate candidate beyond smallest checked singleCheck pairCheck
+    rowAt beforeKey stepBytes timeBytes render numberTests numbersOk zerosOk wellFormed hasSerial firstRow findRow findEmpty located storeRow wipeKey writeRow
+    signedOf valuesOf waitOver waited withState accepted failed deciding decided servedAt tableOk challengeGiven requestOk loadOk deskAfter
 call-table-holds = refl

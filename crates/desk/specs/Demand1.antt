@@ -7,16 +7,16 @@ use mathlib.Core.List.{List, [], _∷_}
 use lib.Dec.{eqb}
 use Rattle.words.specs.Lists.{oneOf}
 use Rattle.window.specs.PasswordAt.{PasswordRule}
+use Rattle.row.specs.declared.Row.{Row}
 use Rattle.row.specs.declared.reading.Place.{Place}
-use Rattle.row.specs.Row.{rowAt}
+use Rattle.row.specs.Row.{rowBytes, rowAt}
 use Rattle.row.specs.Table.{findRow, findEmpty, storeRow, wipeKey, writeRow}
-use Rattle.token.specs.declared.calls.Call.{Call}
 use Rattle.token.specs.declared.answers.Content.{Content}
 use Rattle.token.specs.declared.answers.Answer.{Answer}
 use Rattle.token.specs.Codes.{numberOf}
-use Rattle.token.specs.States.{waited, moved, accepted, failed}
+use Rattle.token.specs.States.{waited, withState, accepted, failed}
 use Rattle.desk.specs.Requests.{Request, DeskCall, loadedRow}
-use Rattle.desk.specs.Desk.{syncCall, deskAfter}
+use Rattle.desk.specs.Desk.{deskAfter}
 
 abbrev pub requestCodes : Request → List ℕ
 requestCodes (Request.login password) = 0x0001 ∷ 0x8404 ∷ 0x8405 ∷ 0x8406 ∷ 0x8407 ∷ 0x8408 ∷ 0x8004 ∷ 0x8002 ∷ []
@@ -35,19 +35,6 @@ abbrev pub codesOf : DeskCall → List ℕ
 codesOf (DeskCall.load p key) = 0x0140 ∷ 0x9005 ∷ 0x8411 ∷ 0x8410 ∷ []
 codesOf (DeskCall.named request serial clock) = 0x9005 ∷ 0x8402 ∷ 0x8403 ∷ requestCodes request
 
--- the call's name in Part 5's table
-abbrev pub nameOf : Request → Call
-nameOf (Request.login password) = Call.Login
-nameOf (Request.challengeLogin challenge password) = Call.ChallengeLogin
-nameOf (Request.activate password following) = Call.Activate
-nameOf Request.lock = Call.Lock
-nameOf (Request.unlock password) = Call.Unlock
-nameOf Request.suspend = Call.Suspend
-nameOf (Request.resume password) = Call.Resume
-nameOf (Request.sync choice password following) = syncCall choice
-nameOf Request.void = Call.Void
-nameOf Request.query = Call.Query
-
 abbrev pub atPlace : List ℕ → Place → (ℕ → List ℕ) → List ℕ
 atPlace s (Place.At at) written = written at
 atPlace s Place.Nowhere written = s
@@ -59,29 +46,34 @@ waitCodes = 0x8409 ∷ 0x8404 ∷ 0x8405 ∷ 0x8406 ∷ 0x8407 ∷ 0x8408 ∷ []
 abbrev pub errorCodes : List ℕ
 errorCodes = 0x8004 ∷ 0x8104 ∷ 0x8002 ∷ 0x8102 ∷ 0x8105 ∷ []
 
--- only a wait run out; or errors + 1, with the lock; else unchanged
-abbrev pub refusedBytes : Request → ℕ → List ℕ → ℕ → ℕ → List ℕ
-refusedBytes request clock s at code =
+-- only a wait run out; or errors + 1, which locks at the two logins, whose errors are 8004 and 8002; else unchanged
+abbrev pub refusedBytes : ℕ → List ℕ → ℕ → ℕ → List ℕ
+refusedBytes clock s at code =
     cond (oneOf code waitCodes) (storeRow s at (waited (rowAt s at) clock))
-    (cond (oneOf code errorCodes) (storeRow s at (failed (nameOf request) (waited (rowAt s at) clock) clock)) s)
+    (cond (oneOf code errorCodes) (storeRow s at (failed (waited (rowAt s at) clock) clock (oneOf code (0x8004 ∷ 0x8002 ∷ [])))) s)
 
--- the column "Success, and what follows": an accepted step marks the row; only a void zeroes the key; a query writes nothing
-abbrev pub successBytes : Request → ℕ → List ℕ → ℕ → Content → List ℕ
-successBytes request clock s at (Content.Checked a d) = storeRow s at (accepted (nameOf request) (waited (rowAt s at) clock) clock (a .0))
-successBytes request clock s at Content.Plain =
-    cond (eqb (numberOf (Answer.Success (nameOf request) Content.Plain)) 0x010a) (wipeKey (storeRow s at (moved (nameOf request) (waited (rowAt s at) clock))) at)
-    (storeRow s at (moved (nameOf request) (waited (rowAt s at) clock)))
-successBytes request clock s at (Content.Told status) = s
+-- the column "Success, and what follows": ready, or another state; of any other code the state is kept
+abbrev pub followed : ℕ → Row → Row
+followed code r =
+    cond (oneOf code (0x0101 ∷ 0x0103 ∷ 0x0105 ∷ [])) (withState r 2)
+    (cond (eqb code 0x0102) (withState r 4) (cond (eqb code 0x0104) (withState r 5) (cond (eqb code 0x010a) (withState r 6) r)))
 
-abbrev pub requestBytes : Request → ℕ → List ℕ → ℕ → Answer → List ℕ
-requestBytes request clock s at (Answer.Success call content) = successBytes request clock s at content
-requestBytes request clock s at (Answer.Refused refusal) = refusedBytes request clock s at (numberOf (Answer.Refused refusal))
+-- an accepted step marks the row; only a void zeroes the key; a query writes nothing
+abbrev pub successBytes : ℕ → List ℕ → ℕ → ℕ → Content → List ℕ
+successBytes clock s at code (Content.Checked a d) = storeRow s at (followed code (accepted (waited (rowAt s at) clock) clock (a .0)))
+successBytes clock s at code Content.Plain =
+    let after = storeRow s at (followed code (waited (rowAt s at) clock)) in cond (eqb code 0x010a) (wipeKey after at) after
+successBytes clock s at code (Content.Queried status) = s
+
+abbrev pub requestBytes : ℕ → List ℕ → ℕ → Answer → List ℕ
+requestBytes clock s at (Answer.Success code content) = successBytes clock s at code content
+requestBytes clock s at (Answer.Refused refusal) = refusedBytes clock s at (numberOf (Answer.Refused refusal))
 
 -- the bytes that document 01 names for an answer to a call
 abbrev pub bytesFor : DeskCall → List ℕ → Answer → List ℕ
-bytesFor (DeskCall.load p key) s (Answer.Success call content) = atPlace s (findEmpty s) (λ at. writeRow s at (loadedRow p key) key)
+bytesFor (DeskCall.load p key) s (Answer.Success code content) = atPlace s (findEmpty rowBytes s) (λ at. writeRow s at (loadedRow p key) key)
 bytesFor (DeskCall.load p key) s (Answer.Refused refusal) = s
-bytesFor (DeskCall.named request serial clock) s answer = atPlace s (findRow s serial) (λ at. requestBytes request clock s at answer)
+bytesFor (DeskCall.named request serial clock) s answer = atPlace s (findRow rowBytes s serial) (λ at. requestBytes clock s at answer)
 
 abbrev pub Demand1 : Type 0
 Demand1 =

@@ -5,19 +5,20 @@ use Prim.Native.Nat.{ℕ, _+_, _-_, _/_, min}
 use mathlib.Core.Path.{_≡_}
 use mathlib.Core.Bool.{Bool, false, _&&_, _||_, cond}
 use mathlib.Core.List.{List, [], _∷_, _++_}
+use mathlib.Core.Option.{Option·getD}
 use lib.Dec.{eqb, leb}
 use lib.ListN.{length, getD, replicate}
 use Rattle.words.specs.Bytes.{AreBytes, beAt, beBytes, put}
 use Rattle.words.specs.Lists.{oneOf}
 use Rattle.window.specs.PasswordAt.{PasswordRule}
 use Rattle.row.specs.declared.reading.Place.{Place}
+use Rattle.row.specs.Row.{rowBytes}
 use Rattle.row.specs.Table.{findRow, findEmpty}
-use Rattle.token.specs.declared.answers.Content.{Content}
 use Rattle.token.specs.declared.answers.Answer.{Answer}
 use Rattle.token.specs.Codes.{numberOf}
 use Rattle.desk.specs.declared.Particulars.{Particulars}
 use Rattle.desk.specs.Requests.{DeskCall}
-use Rattle.desk.specs.Desk.{deskAfter}
+use Rattle.desk.specs.Desk.{deskAfter, checkedOf}
 use Rattle.desk.specs.Demand1.{atPlace}
 
 -- ---- bytes at offsets of a row
@@ -114,7 +115,7 @@ module _ (s : List ℕ) (at : ℕ) where
 -- all 96 bytes: state 1, kind, algorithm, digits, period, limit, errors 0, key length; serial; key, zero-filled; next 0; d 0, held as 600; zeros; wait; expiry; zeros
 abbrev pub loaded : Particulars → List ℕ → List Change
 loaded p key =
-    change 0 (1 ∷ p .rule .kind ∷ p .rule .algorithm ∷ p .rule .digits ∷ p .period ∷ p .limit ∷ 0 ∷ length key ∷ [])
+    change 0 (1 ∷ p .scheme .kind ∷ p .scheme .algorithm ∷ p .scheme .digits ∷ p .period ∷ p .limit ∷ 0 ∷ length key ∷ [])
     ∷ change 8 (beBytes 8 (p .serial))
     ∷ change 16 (key ++ replicate (32 - length key) 0)
     ∷ change 48 (replicate 8 0)
@@ -129,15 +130,12 @@ loaded p key =
 
 -- a load takes the first empty row; the serial's row is the first one not empty that has it
 abbrev pub rowOf : DeskCall → List ℕ → Place
-rowOf (DeskCall.load p key) s = findEmpty s
-rowOf (DeskCall.named request serial clock) s = findRow s serial
+rowOf (DeskCall.load p key) s = findEmpty rowBytes s
+rowOf (DeskCall.named request serial clock) s = findRow rowBytes s serial
 
--- the accepted step that an answer carries
+-- the accepted step that an answer carries, else 0
 abbrev pub stepIn : Answer → ℕ
-stepIn (Answer.Success call (Content.Checked step d)) = step .0
-stepIn (Answer.Success call Content.Plain) = 0
-stepIn (Answer.Success call (Content.Told status)) = 0
-stepIn (Answer.Refused refusal) = 0
+stepIn answer = Option·getD (checkedOf answer) (record { 0 = 0 }, record { 0 = 0 }) .0 .0
 
 abbrev pub changesFor : DeskCall → List ℕ → ℕ → Answer → List Change
 changesFor (DeskCall.load p key) s at answer = cond (eqb (numberOf answer) 0x0140) (loaded p key) []

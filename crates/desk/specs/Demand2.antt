@@ -4,22 +4,21 @@ use Prim.Native.Nat.{ℕ, _+_, _≤_, _<_}
 use mathlib.Core.Path.{_≡_}
 use mathlib.Core.Bool.{Bool, true, false, _&&_}
 use mathlib.Core.List.{List, [], _∷_}
-use mathlib.Core.Option.{Option, none, some}
+use mathlib.Core.Option.{some}
 use Rattle.words.specs.Lists.{oneOf}
 use Rattle.window.specs.declared.Size.{Size}
 use Rattle.window.specs.declared.Size.the-variants.{Small, Medium, Large}
+use Rattle.window.specs.declared.Offset.{Offset}
 use Rattle.window.specs.Window.{candidate}
 use Rattle.window.specs.PasswordAt.{PasswordRule, hasBy}
 use Rattle.row.specs.declared.reading.Place.{Place}
-use Rattle.row.specs.Row.{rowAt, wellFormed}
+use Rattle.row.specs.Row.{rowBytes, lastState, rowAt, wellFormed}
 use Rattle.row.specs.Table.{findRow}
-use Rattle.token.specs.declared.answers.Content.{Content}
 use Rattle.token.specs.declared.answers.Answer.{Answer}
 use Rattle.token.specs.Codes.{numberOf}
-use Rattle.token.specs.States.{waited, accepted}
-use Rattle.token.specs.OnTable.{secretAt}
+use Rattle.token.specs.States.{waited}
 use Rattle.desk.specs.Requests.{Request, DeskCall, tableOk, clockOk, requestOk}
-use Rattle.desk.specs.Desk.{deskAfter}
+use Rattle.desk.specs.Desk.{secretAt, deskAfter, checkedOf}
 
 -- the calls that check a password, with the states in which they are made, the window's size and the codes of used and wrong
 pub record Checking : Type 0 where
@@ -59,37 +58,31 @@ pub data Checks : Request → Checking → Type 0 where
 
 -- the demand's premises: arguments in range, a well-formed row of the serial in the right state once a wait has run out, and not expired
 pub record Ready (request : Request) (c : Checking) (serial clock : ℕ) (s : List ℕ) (at : ℕ) : Type 0 where
-  pub table : tableOk s ≡ true
+  pub table : tableOk rowBytes s ≡ true
   pub timely : clockOk clock ≡ true
   pub arguments : requestOk request ≡ true
-  pub found : findRow s serial ≡ Place.At at
-  pub formed : wellFormed s at ≡ true
+  pub found : findRow rowBytes s serial ≡ Place.At at
+  pub formed : wellFormed lastState s at ≡ true
   pub state : oneOf (waited (rowAt s at) clock .state) (c .states) ≡ true
   pub unexpired : clock < rowAt s at .expiry .0
 
 -- step x of the row at a place matches what the call presents
 abbrev pub Hits : PasswordRule → Checking → ℕ → List ℕ → ℕ → ℕ → Bool
 Hits passwords c clock s at x =
-    c .matches (λ challenge presented. hasBy passwords (rowAt s at .track .rule) (secretAt s at) challenge presented) (candidate (rowAt s at .track) clock (c .size)) x
+    c .matches (λ challenge presented. hasBy passwords (rowAt s at .track .scheme) (secretAt s at) challenge presented) (candidate (rowAt s at .track) clock (c .size)) x
 
 abbrev pub nextAt : List ℕ → ℕ → ℕ
 nextAt s at = rowAt s at .track .next .0
 
 abbrev pub Exactly : Type 0 → Type 0 → Type 0
-Exactly told holds = (told → holds) × (holds → told)
-
--- the step that an answer carries
-abbrev pub stepOf : Answer → Option ℕ
-stepOf (Answer.Success call (Content.Checked step d)) = some (step .0)
-stepOf (Answer.Success call Content.Plain) = none
-stepOf (Answer.Success call (Content.Told status)) = none
-stepOf (Answer.Refused refusal) = none
+Exactly said holds = (said → holds) × (holds → said)
 
 -- what an answer says of the steps that match, from the row's first unused step on or before it
-pub record Told (answer : Answer) (c : Checking) (next : ℕ) (hits : ℕ → Bool) : Type 0 where
+pub record Verdict (answer : Answer) (c : Checking) (next : ℕ) (hits : ℕ → Bool) : Type 0 where
   pub accepted : Exactly (numberOf answer ≡ c .success) ((x : ℕ) × ((next ≤ x) × (hits x ≡ true)))
   -- the smallest such step counts
-  pub smallest : (x : ℕ) → next ≤ x → hits x ≡ true → ((y : ℕ) → next ≤ y → y < x → hits y ≡ false) → stepOf answer ≡ some (x + c .ahead)
+  pub smallest : (x : ℕ) → next ≤ x → hits x ≡ true → ((y : ℕ) → next ≤ y → y < x → hits y ≡ false)
+      → (d : Offset) × (checkedOf answer ≡ some (record { 0 = x + c .ahead }, d))
   pub used : Exactly (numberOf answer ≡ c .used) (((x : ℕ) → next ≤ x → hits x ≡ false) × ((x : ℕ) × ((x < next) × (hits x ≡ true))))
   pub wrong : Exactly (numberOf answer ≡ c .wrong) ((x : ℕ) → hits x ≡ false)
   -- and nothing else is said
@@ -98,4 +91,4 @@ pub record Told (answer : Answer) (c : Checking) (next : ℕ) (hits : ℕ → Bo
 abbrev pub Demand2 : Type 0
 Demand2 =
     (passwords : PasswordRule) (request : Request) (c : Checking) → Checks request c → (serial clock : ℕ) (s : List ℕ) (at : ℕ) → Ready request c serial clock s at
-    → Told (deskAfter passwords (DeskCall.named request serial clock) s .answer) c (nextAt s at) (Hits passwords c clock s at)
+    → Verdict (deskAfter passwords (DeskCall.named request serial clock) s .answer) c (nextAt s at) (Hits passwords c clock s at)

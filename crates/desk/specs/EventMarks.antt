@@ -8,25 +8,26 @@ use borrow.Author.Tests.{not-true}
 use lib.ListN.{replicate, length-replicate}
 use Rattle.words.specs.Bytes.{beAt, beBytes, putBe}
 use Rattle.words.specs.Lists.{sameBytes, allZero, allWithin}
-use Rattle.words.specs.Tables.{every, entry-rule}
+use Rattle.words.specs.Entries.{every, entry-rule}
 use Rattle.otp.specs.Password.{decimals}
+use Rattle.otp.specs.Numbers.{numberFrom}
+use Rattle.otp.specs.Typed.{passwordOk, digitsOf}
 use Rattle.window.specs.declared.Size.the-variants.{Small, Large}
 use Rattle.window.specs.declared.Outcome.the-variants.{Accepted}
 use Rattle.window.specs.Window.{eventCandidate, candidate}
 use Rattle.window.specs.WindowTable.{eventTrack}
 use Rattle.window.specs.Check.{freshHit, singleHit, pairHit}
-use Rattle.window.specs.Meaning.{First, single-accepted-exactly, pair-accepted-exactly}
+use Rattle.window.specs.Meaning.{First, single-means, pair-means}
 use Rattle.window.specs.PasswordAt.{hasBy}
 use Rattle.window.specs.TokenCheck.{singleCheck, pairCheck}
 use Rattle.row.specs.Row.{rowAt, numberTests, numbersOk, zerosOk, wellFormed}
-use Rattle.row.specs.Table.{hasSerial, firstRow, findRow, storeRow}
+use Rattle.row.specs.Table.{hasSerial, firstRow, findRow, located, storeRow}
 use Rattle.token.specs.Codes.{signedOf, valuesOf}
 use Rattle.token.specs.Codes.Signed.{plus}
-use Rattle.token.specs.States.{waitOver, waited, moved, accepted}
-use Rattle.token.specs.Serving.{serving, served}
-use Rattle.token.specs.OnTable.{servedAt}
-use Rattle.desk.specs.Requests.{Request, DeskCall, tableOk, passwordOk, requestOk}
-use Rattle.desk.specs.Desk.{requestedAt, deskAfter}
+use Rattle.token.specs.States.{waitOver, waited, withState, accepted}
+use Rattle.token.specs.Deciding.{deciding, decided}
+use Rattle.desk.specs.Requests.{Request, DeskCall, tableOk, requestOk}
+use Rattle.desk.specs.Desk.{servedAt, deskAfter}
 use Rattle.desk.specs.Demand1Bytes.{state, errors, next, lastUse}
 use Rattle.desk.specs.CallLines.{rowBy, cell, bySteps, cellHolds}
 
@@ -45,13 +46,13 @@ unfolding candidate eventCandidate sameBytes decimals
 fresh-nine = record { passes = refl; before = none-below (freshHit (singleHit (candidate (eventTrack 7) 1059 Small) (has 9)) 7) 9 refl }
 
 nine-accepted : singleCheck (eventTrack 7) 1059 Small (has 9) ≡ Accepted (record { 0 = 9 })
-nine-accepted = single-accepted-exactly (eventTrack 7) 1059 Small (has 9) .1 9 fresh-nine
+nine-accepted = single-means (eventTrack 7) 1059 Small (has 9) .accepted .1 9 fresh-nine
 
 pub event-login-marks : cellHolds (deskAfter bySteps (DeskCall.named (Request.login (decimals 6 9)) 9 1059) (rowBy 1 0 2 2 7 0)) (rowBy 1 0 2 2 7 0)
     (cell 0x0001 (plus 9 ∷ plus 0 ∷ []) (errors 0 ∷ next 10 ∷ lastUse 1059 ∷ []))
     ≡ true
-unfolding beAt beBytes putBe sameBytes allZero allWithin decimals rowAt numberTests numbersOk zerosOk wellFormed hasSerial firstRow findRow storeRow
-    signedOf valuesOf waitOver waited moved accepted serving served servedAt tableOk passwordOk requestOk requestedAt deskAfter
+unfolding beAt beBytes putBe sameBytes allZero allWithin decimals passwordOk numberFrom digitsOf rowAt numberTests numbersOk zerosOk wellFormed hasSerial firstRow findRow located storeRow
+    signedOf valuesOf waitOver waited withState accepted deciding decided servedAt tableOk requestOk deskAfter
 event-login-marks = rw nine-accepted refl
 
 -- ---- an activation with steps 8 and 9
@@ -61,11 +62,11 @@ unfolding candidate eventCandidate sameBytes decimals
 fresh-eight = record { passes = refl; before = none-below (freshHit (pairHit (candidate (eventTrack 7) 1059 Large) (has 8) (has 9)) 7) 8 refl }
 
 pair-accepted : pairCheck (eventTrack 7) 1059 Large (has 8) (has 9) ≡ Accepted (record { 0 = 9 })
-pair-accepted = pair-accepted-exactly (eventTrack 7) 1059 Large (has 8) (has 9) .1 8 fresh-eight
+pair-accepted = pair-means (eventTrack 7) 1059 Large (has 8) (has 9) .accepted .1 8 fresh-eight
 
 pub event-activation-marks : cellHolds (deskAfter bySteps (DeskCall.named (Request.activate (decimals 6 8) (decimals 6 9)) 9 1059) (rowBy 1 0 1 2 7 0)) (rowBy 1 0 1 2 7 0)
     (cell 0x0101 (plus 9 ∷ plus 0 ∷ []) (state 2 ∷ errors 0 ∷ next 10 ∷ lastUse 1059 ∷ []))
     ≡ true
-unfolding beAt beBytes putBe sameBytes allZero allWithin decimals rowAt numberTests numbersOk zerosOk wellFormed hasSerial firstRow findRow storeRow
-    signedOf valuesOf waitOver waited moved accepted serving served servedAt tableOk passwordOk requestOk requestedAt deskAfter
+unfolding beAt beBytes putBe sameBytes allZero allWithin decimals passwordOk numberFrom digitsOf rowAt numberTests numbersOk zerosOk wellFormed hasSerial firstRow findRow located storeRow
+    signedOf valuesOf waitOver waited withState accepted deciding decided servedAt tableOk requestOk deskAfter
 event-activation-marks = rw pair-accepted refl

@@ -14,14 +14,13 @@ use Rattle.window.specs.PasswordAt.{PasswordRule, hasBy}
 use Rattle.window.specs.TokenCheck.{singleCheck, pairCheck}
 use Rattle.row.specs.declared.Row.{Row}
 use Rattle.row.specs.declared.reading.Place.{Place}
-use Rattle.row.specs.Row.{rowAt, wellFormed}
+use Rattle.row.specs.Row.{rowBytes, lastState, rowAt, wellFormed}
 use Rattle.row.specs.Table.{findRow, findEmpty}
 use Rattle.token.specs.Codes.{numberOf}
 use Rattle.token.specs.States.{waited}
-use Rattle.token.specs.OnTable.{secretAt}
 use Rattle.desk.specs.declared.Particulars.{Particulars}
 use Rattle.desk.specs.Requests.{Request, DeskCall, tableOk, clockOk, requestOk, loadOk}
-use Rattle.desk.specs.Desk.{deskAfter}
+use Rattle.desk.specs.Desk.{secretAt, deskAfter}
 
 -- a line of the table: when it holds, and what is then returned
 pub record Line : Type 0 where
@@ -39,7 +38,7 @@ firstOf (l ∷ ls) other = cond (l .holds) (l .code) (firstOf ls other)
 -- ---- the conditions
 
 abbrev pub tableLengthBad : List ℕ → Bool
-tableLengthBad s = not (tableOk s)
+tableLengthBad s = not (tableOk rowBytes s)
 
 abbrev pub clockTooLate : ℕ → Bool
 clockTooLate clock = not (clockOk clock)
@@ -57,16 +56,16 @@ nowhere Place.Nowhere = true
 
 -- load: the serial is in a row not empty
 abbrev pub serialTaken : List ℕ → ℕ → Bool
-serialTaken s serial = not (nowhere (findRow s serial))
+serialTaken s serial = not (nowhere (findRow rowBytes s serial))
 
 abbrev pub noRowEmpty : List ℕ → Bool
-noRowEmpty s = nowhere (findEmpty s)
+noRowEmpty s = nowhere (findEmpty rowBytes s)
 
 abbrev pub noRowOfSerial : List ℕ → ℕ → Bool
-noRowOfSerial s serial = nowhere (findRow s serial)
+noRowOfSerial s serial = nowhere (findRow rowBytes s serial)
 
 abbrev pub rowDamaged : List ℕ → ℕ → Bool
-rowDamaged s at = not (wellFormed s at)
+rowDamaged s at = not (wellFormed lastState s at)
 
 -- the state is one of these, and none of the needed ones
 abbrev pub stateUnfit : List ℕ → List ℕ → ℕ → Bool
@@ -123,11 +122,11 @@ checkLines r clock used wrong outcome =
 module _ (passwords : PasswordRule) (r : Row) (key : List ℕ) (clock : ℕ) where
   -- one password, and two without a challenge
   abbrev pub single : Size → List ℕ → List ℕ → Outcome
-  single size challenge password = singleCheck (r .track) clock size (hasBy passwords (r .track .rule) key challenge password)
+  single size challenge password = singleCheck (r .track) clock size (hasBy passwords (r .track .scheme) key challenge password)
 
   abbrev pub pair : Size → List ℕ → List ℕ → Outcome
   pair size password following =
-      pairCheck (r .track) clock size (hasBy passwords (r .track .rule) key [] password) (hasBy passwords (r .track .rule) key [] following)
+      pairCheck (r .track) clock size (hasBy passwords (r .track .scheme) key [] password) (hasBy passwords (r .track .scheme) key [] following)
 
   abbrev pub requestLines : Request → List Line
   requestLines (Request.login password) = checkLines r clock 0x8004 0x8002 (single Small [] password)
@@ -171,7 +170,7 @@ linesFor passwords (DeskCall.named request serial clock) s =
     ∷ returns 0x9005 (clockTooLate clock)
     ∷ returns 0x9005 (argumentBad request)
     ∷ returns 0x8402 (noRowOfSerial s serial)
-    ∷ rowLines passwords request clock s (findRow s serial)
+    ∷ rowLines passwords request clock s (findRow rowBytes s serial)
 
 abbrev pub success : DeskCall → ℕ
 success (DeskCall.load p key) = 0x0140

@@ -9,8 +9,8 @@ use lib.Dec.{eqb, leb}
 use lib.ListN.{length, length-append}
 use Rattle.words.specs.Bytes.{put}
 use Rattle.words.specs.PutLaws.{put-nothing, put-length, put-on, put-over, put-apart}
-use Rattle.words.specs.ListsLaws.{by-test}
-use Rattle.words.specs.Tables.{and-left, and-right}
+use Rattle.words.specs.BoolLaws.{by-test, and-left, and-right}
+use Rattle.row.specs.Row.{rowBytes}
 use Rattle.desk.specs.Demand1Bytes.{Change, laid}
 
 -- the offset behind a change
@@ -20,7 +20,7 @@ end c = c .offset + length (c .bytes)
 -- all lie within a row
 abbrev pub inRow : List Change → Bool
 inRow [] = true
-inRow (c ∷ cs) = leb (end c) 96 && inRow cs
+inRow (c ∷ cs) = leb (end c) rowBytes && inRow cs
 
 abbrev pub apart : Change → Change → Bool
 apart c d = leb (end c) (d .offset) || leb (end d) (c .offset)
@@ -57,46 +57,46 @@ module _ (at : ℕ) where
   laid-append s [] ds = refl
   laid-append s (c ∷ cs) ds = laid-append (one s c) cs ds
 
-  one-length : (s : List ℕ) (c : Change) → at + 96 ≤ length s → end c ≤ 96 → length (one s c) ≡ length s
+  one-length : (s : List ℕ) (c : Change) → at + rowBytes ≤ length s → end c ≤ rowBytes → length (one s c) ≡ length s
   one-length s c room l = put-length s (at + c .offset) (c .bytes) (omega arith)
 
-  one-one : (s : List ℕ) (c d : Change) → at + 96 ≤ length s → end c ≤ 96 → end d ≤ 96 → apart c d ≡ true → one (one s d) c ≡ one (one s c) d
+  one-one : (s : List ℕ) (c d : Change) → at + rowBytes ≤ length s → end c ≤ rowBytes → end d ≤ rowBytes → apart c d ≡ true → one (one s d) c ≡ one (one s c) d
   one-one s c d room f g t =
       by-test (leb (end c) (d .offset))
       (λ b. let l = leb-true (end c) (d .offset) b in sym (put-apart s (at + c .offset) (at + d .offset) (c .bytes) (d .bytes) (omega arith) (omega arith)))
       (λ b. let l = leb-true (end d) (c .offset) (rw b at t) in put-apart s (at + d .offset) (at + c .offset) (d .bytes) (c .bytes) (omega arith) (omega arith))
 
   -- a change goes before others that it lies apart from
-  laid-apart : (s : List ℕ) (c : Change) (ds : List Change) → at + 96 ≤ length s → end c ≤ 96 → inRow ds ≡ true → apartFrom c ds ≡ true
+  laid-apart : (s : List ℕ) (c : Change) (ds : List Change) → at + rowBytes ≤ length s → end c ≤ rowBytes → inRow ds ≡ true → apartFrom c ds ≡ true
       → one (laid s at ds) c ≡ laid (one s c) at ds
   laid-apart s c [] room f within t = refl
   laid-apart s c (d ∷ ds) room f within t =
-      let g = leb-true (end d) 96 (and-left (leb (end d) 96) (inRow ds) within) in
-      laid-apart (one s d) c ds (rw (one-length s d room g) room) f (and-right (leb (end d) 96) (inRow ds) within) (and-right (apart c d) (apartFrom c ds) t)
-      ∙ ap (λ (z : List ℕ). laid z at ds) (one-one s c d room f g (and-left (apart c d) (apartFrom c ds) t))
+      let g = leb-true (end d) rowBytes (and-left _ _ within) in
+      laid-apart (one s d) c ds (rw (one-length s d room g) room) f (and-right (leb (end d) rowBytes) _ within) (and-right (apart c d) _ t)
+      ∙ ap (λ (z : List ℕ). laid z at ds) (one-one s c d room f g (and-left _ _ t))
 
-  laid-replaced : (s : List ℕ) (c : Change) (ds : List Change) → at + 96 ≤ length s → inRow ds ≡ true → replaces c ds ≡ true → one (laid s at ds) c ≡ laid s at (replaced c ds)
+  laid-replaced : (s : List ℕ) (c : Change) (ds : List Change) → at + rowBytes ≤ length s → inRow ds ≡ true → replaces c ds ≡ true → one (laid s at ds) c ≡ laid s at (replaced c ds)
   laid-replaced s c [] room within t = cc
   laid-replaced s c (d ∷ ds) room within t =
-      let g = leb-true (end d) 96 (and-left (leb (end d) 96) (inRow ds) within) in
-      let kept : at + 96 ≤ length (one s d) = rw (one-length s d room g) room in
-      let rest = and-right (leb (end d) 96) (inRow ds) within in
+      let g = leb-true (end d) rowBytes (and-left _ _ within) in
+      let kept : at + rowBytes ≤ length (one s d) = rw (one-length s d room g) room in
+      let rest = and-right (leb (end d) rowBytes) _ within in
       let long = eqb (length (d .bytes)) (length (c .bytes)) in
       by-test (eqb (c .offset) (d .offset))
       (λ same. let both : long && apartFrom c ds ≡ true = rw same at t in
       let e = eqb-true (c .offset) (d .offset) same in
-      let n = eqb-true (length (d .bytes)) (length (c .bytes)) (and-left long (apartFrom c ds) both) in
+      let n = eqb-true (length (d .bytes)) (length (c .bytes)) (and-left _ _ both) in
       let over : one (one s d) c ≡ one s c = rw e (put-over s (at + d .offset) (d .bytes) (c .bytes) n (omega arith)) in
-      rw same (laid-apart (one s d) c ds kept (omega arith) rest (and-right long (apartFrom c ds) both) ∙ ap (λ (z : List ℕ). laid z at ds) over))
+      rw same (laid-apart (one s d) c ds kept (omega arith) rest (and-right long _ both) ∙ ap (λ (z : List ℕ). laid z at ds) over))
       (λ other. rw other (laid-replaced (one s d) c ds kept rest (rw other at t)))
 
   -- changes laid over others that they replace
-  pub laid-replacing : (s : List ℕ) (ds cs : List Change) → at + 96 ≤ length s → replacesAll ds cs ≡ true → laid (laid s at ds) at cs ≡ laid s at (replacedBy ds cs)
+  pub laid-replacing : (s : List ℕ) (ds cs : List Change) → at + rowBytes ≤ length s → replacesAll ds cs ≡ true → laid (laid s at ds) at cs ≡ laid s at (replacedBy ds cs)
   laid-replacing s ds [] room t = refl
   laid-replacing s ds (c ∷ cs) room t =
-      let first = and-left (inRow ds && replaces c ds) (replacesAll (replaced c ds) cs) t in
-      rw (laid-replaced s c ds room (and-left (inRow ds) (replaces c ds) first) (and-right (inRow ds) (replaces c ds) first))
-      (laid-replacing s (replaced c ds) cs room (and-right (inRow ds && replaces c ds) (replacesAll (replaced c ds) cs) t))
+      let first = and-left _ _ t in
+      rw (laid-replaced s c ds room (and-left _ _ first) (and-right (inRow ds) _ first))
+      (laid-replacing s (replaced c ds) cs room (and-right (inRow ds && replaces c ds) _ t))
 
 -- ---- changes that stand one behind the other
 

@@ -1,6 +1,11 @@
--- The desk: its calls, what each says and leaves in the table, and the buyer's first and second demands.
+-- The desk (document 01, Part 5).
 pub mod Requests
 pub mod Desk
+pub mod ServingLaws
+pub mod CallsLaws
+pub mod LoadLaws
+pub mod ServedLocalLaws
+pub mod BranchLaws
 pub mod Demand1
 pub mod Demand1Bytes
 pub mod Demand2
@@ -12,9 +17,6 @@ pub mod Demand1BytesLaws
 pub mod OtherBytesLaws
 pub mod Demand2Laws
 pub mod No8106Laws
-pub mod ArgumentsLaws
-pub mod DeskLaws
-pub mod LoadLaws
 pub mod CallLines
 pub mod CallTable
 pub mod ArgumentTable

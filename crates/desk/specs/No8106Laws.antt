@@ -1,109 +1,35 @@
 -- No call is answered 8106, and an accepted step of a time token lies at most 600 from T (`No8106`).
-use Prim.Native.Nat.{ℕ, _≤_}
-use mathlib.Core.Path.{_≡_, refl}
-use mathlib.Core.Bool.{Bool, true, false, _&&_}
-use mathlib.Core.List.{List, []}
-use mathlib.Core.Option.{some}
-use native.Mathlib.Omega.{arith}
-use lib.Dec.{eqb, leb}
+use Prim.Native.Nat.{ℕ, _^_, _≤_}
+use mathlib.Core.Path.{_≡_, refl, sym, ap, subst}
+use mathlib.Core.Bool.{false}
+use mathlib.Core.List.{List}
+use mathlib.Core.Option.{Option, some, Option·getD}
+use borrow.Author.Tests.{ltb-true}
+use lib.Dec.{eqb}
 use Rattle.words.specs.Lists.{oneOf}
-use Rattle.words.specs.Branches.{either}
-use Rattle.window.specs.declared.Size.{Size}
+use Rattle.words.specs.BoolLaws.{impossible}
 use Rattle.window.specs.declared.Step.{Step}
 use Rattle.window.specs.declared.Offset.{Offset}
 use Rattle.window.specs.declared.Track.{Track}
 use Rattle.window.specs.declared.Outcome.{Outcome}
-use Rattle.window.specs.Window.{timeToken, stepAt, distance, candidate}
+use Rattle.window.specs.declared.asked.Asked.{Asked}
+use Rattle.window.specs.Window.{timeToken, stepAt, distance, Sound}
 use Rattle.window.specs.PasswordAt.{PasswordRule}
-use Rattle.window.specs.TokenCheck.{singleCheck, pairCheck}
-use Rattle.window.specs.Meaning.{candidate-near, single-accepts-candidate, pair-accepts-candidate}
 use Rattle.row.specs.declared.Row.{Row}
-use Rattle.row.specs.Row.{rowAt, wellFormed}
-use Rattle.token.specs.declared.calls.Call.{Call}
-use Rattle.token.specs.declared.calls.Checking.{Checking}
-use Rattle.token.specs.declared.answers.Status.{Status}
-use Rattle.token.specs.declared.answers.Content.{Content}
+use Rattle.row.specs.Row.{lastState, rowAt}
+use Rattle.row.specs.RangeLaws.{row-sound}
 use Rattle.token.specs.declared.answers.Refusal.{Refusal}
 use Rattle.token.specs.declared.answers.Answer.{Answer}
-use Rattle.token.specs.declared.serving.Served.{Served}
-use Rattle.token.specs.Calls.{allowed, checkingOf, usedRefusal, wrongRefusal, stateRefusal}
-use Rattle.token.specs.Codes.{successNumber, numberOf}
-use Rattle.token.specs.States.{waited}
+use Rattle.token.specs.declared.lines.Way.{Way}
+use Rattle.token.specs.Codes.{numberOf}
 use Rattle.token.specs.StatesLaws.{waited-track}
-use Rattle.token.specs.Serving.{judging, timely, checking, permitted, serving, served, querying}
-use Rattle.token.specs.OnTable.{Result, servedAt, queriedAt}
-use Rattle.desk.specs.Requests.{Request, DeskCall, tableOk, clockOk, requestOk}
-use Rattle.desk.specs.Desk.{syncCall, requestedAt, deskAfter}
+use Rattle.token.specs.DecidingLaws.{checked-near}
+use Rattle.desk.specs.Requests.{Request, DeskCall, challengeOf}
+use Rattle.desk.specs.Desk.{secretAt, checkedOf}
+use Rattle.desk.specs.ServingLaws.{numbers-of}
+use Rattle.desk.specs.BranchLaws.{Reached, rowNow, lineFor, checkAt, Succeeds, load-answer-holds, named-answer-holds, by-refusal}
 use Rattle.desk.specs.Demand1.{codesOf}
-use Rattle.desk.specs.Demand2.{stepOf}
 use Rattle.desk.specs.No8106.{No8106, AcceptedNear}
-
--- ---- what holds of every way in which a call on the row at a place is answered
-
-module _ (s : List ℕ) (at clock : ℕ) (Holds : Answer → Type 0) (refused : (f : Refusal) → Holds (Answer.Refused f))
-    (plain : (call : Call) → Holds (Answer.Success call Content.Plain)) (told : (status : Status) → Holds (Answer.Success Call.Query (Content.Told status)))
-    (accepted : (call : Call) (size : Size) (a : Step) (d : Offset) → candidate (rowAt s at .track) clock size (a .0) ≡ true
-    → Holds (Answer.Success call (Content.Checked a d))) where
-  abbrev Serves : Served → Type 0
-  Serves d = Holds (d .answer)
-
-  -- the step that a check accepts is a candidate
-  abbrev Checked : Size → Outcome → Type 0
-  Checked size o = (a : Step) → o ≡ Outcome.Accepted a → candidate (rowAt s at .track) clock size (a .0) ≡ true
-
-  module _ (call : Call) (r : Row) where
-    judging-holds : (size : Size) (o : Outcome) → Checked size o → Serves (judging call r clock o)
-    judging-holds size (Outcome.Accepted a) c = accepted call size a _ (c a refl)
-    judging-holds size Outcome.Used c = refused (usedRefusal call)
-    judging-holds size Outcome.Wrong c = refused (wrongRefusal call)
-
-    timely-holds : (size : Size) (o : Outcome) → Checked size o → Serves (timely call r clock o)
-    timely-holds size o c = either Serves (leb (r .expiry .0) clock) (refused Refusal.Expired) (judging-holds size o c)
-
-    module _ (single pair : Track → Size → Outcome) (alone : (size : Size) → Checked size (single (r .track) size))
-        (together : (size : Size) → Checked size (pair (r .track) size)) where
-      checking-holds : (c : Checking) → Serves (checking call r clock single pair c)
-      checking-holds Checking.Nothing = plain call
-      checking-holds (Checking.Single size) = timely-holds size (single (r .track) size) (alone size)
-      checking-holds (Checking.Pair size) = timely-holds size (pair (r .track) size) (together size)
-
-      permitted-holds : Serves (permitted call r clock single pair)
-      permitted-holds =
-          either Serves (allowed call (r .state)) (checking-holds (checkingOf call)) (refused (stateRefusal (r .state)))
-
-  module _ (k : Track) (same : k ≡ rowAt s at .track) (size : Size) where
-    single-checked : (matches : ℕ → Bool) → Checked size (singleCheck k clock size matches)
-    single-checked matches a e = rw same at (single-accepts-candidate k clock size matches e)
-
-    pair-checked : (first second : ℕ → Bool) → Checked size (pairCheck k clock size first second)
-    pair-checked first second a e = rw same at (pair-accepts-candidate k clock size first second e)
-
-  module _ (passwords : PasswordRule) where
-    abbrev Results : Result → Type 0
-    Results x = Holds (x .answer)
-
-    served-holds : (call : Call) (challenge presented following : List ℕ) → Results (servedAt passwords s at call clock challenge presented following)
-    unfolding servedAt served serving
-    served-holds call challenge presented following =
-        let same = waited-track (rowAt s at) clock in
-        either Results (wellFormed s at)
-        (permitted-holds call (waited (rowAt s at) clock) _ _
-        (λ size. single-checked (waited (rowAt s at) clock .track) same size _)
-        (λ size. pair-checked (waited (rowAt s at) clock .track) same size _ _))
-        (refused Refusal.Damaged)
-
-    requested-holds : (request : Request) → Results (requestedAt passwords request clock s at)
-    unfolding requestedAt queriedAt querying
-    requested-holds (Request.login password) = served-holds Call.Login [] password []
-    requested-holds (Request.challengeLogin challenge password) = served-holds Call.ChallengeLogin challenge password []
-    requested-holds (Request.activate password following) = served-holds Call.Activate [] password following
-    requested-holds Request.lock = served-holds Call.Lock [] [] []
-    requested-holds (Request.unlock password) = served-holds Call.Unlock [] password []
-    requested-holds Request.suspend = served-holds Call.Suspend [] [] []
-    requested-holds (Request.resume password) = served-holds Call.Resume [] password []
-    requested-holds (Request.sync choice password following) = served-holds (syncCall choice) [] password following
-    requested-holds Request.void = served-holds Call.Void [] [] []
-    requested-holds Request.query = either Holds (wellFormed s at) (told _) (refused Refusal.Damaged)
 
 -- ---- 8106
 
@@ -111,44 +37,25 @@ abbrev Other : Answer → Type 0
 Other answer = eqb (numberOf answer) 0x8106 ≡ false
 
 refusal-other : (f : Refusal) → Other (Answer.Refused f)
-refusal-other Refusal.BadArgument = refl
-refusal-other Refusal.AlreadyLoaded = refl
-refusal-other Refusal.TableFull = refl
-refusal-other Refusal.Unknown = refl
-refusal-other Refusal.Damaged = refl
-refusal-other Refusal.Ready = refl
-refusal-other Refusal.Locked = refl
-refusal-other Refusal.Suspended = refl
-refusal-other Refusal.Inactive = refl
-refusal-other Refusal.Void = refl
-refusal-other Refusal.Expired = refl
-refusal-other Refusal.UsedAtLogin = refl
-refusal-other Refusal.Used = refl
-refusal-other Refusal.WrongAtLogin = refl
-refusal-other Refusal.Wrong = refl
-refusal-other Refusal.WrongAtSync = refl
+refusal-other = by-refusal (λ f. Other (Answer.Refused f)) refl refl refl refl refl refl refl refl refl refl refl refl refl refl refl refl
 
-success-other : (call : Call) → eqb (successNumber call) 0x8106 ≡ false
-success-other Call.Load = refl
-success-other Call.Login = refl
-success-other Call.ChallengeLogin = refl
-success-other Call.Activate = refl
-success-other Call.Lock = refl
-success-other Call.Unlock = refl
-success-other Call.Suspend = refl
-success-other Call.Resume = refl
-success-other Call.SyncMedium = refl
-success-other Call.SyncLarge = refl
-success-other Call.Void = refl
-success-other Call.Query = refl
-
-answer-other : (answer : Answer) → Other answer
-answer-other (Answer.Success call content) = success-other call
-answer-other (Answer.Refused refusal) = refusal-other refusal
+success-other : (w : Row) (clock : ℕ) (check : Track → Asked → Outcome) (request : Request) → Succeeds Other (lineFor request) w clock check (lineFor request .way)
+success-other w clock check (Request.login password) = λ a e. refl
+success-other w clock check (Request.challengeLogin challenge password) = λ a e. refl
+success-other w clock check (Request.activate password following) = λ a e. refl
+success-other w clock check Request.lock = refl
+success-other w clock check (Request.unlock password) = λ a e. refl
+success-other w clock check Request.suspend = refl
+success-other w clock check (Request.resume password) = λ a e. refl
+success-other w clock check (Request.sync choice password following) = λ a e. refl
+success-other w clock check Request.void = refl
+success-other w clock check Request.query = refl
 
 -- no answer has that number
 pub no-8106 : No8106
-no-8106 passwords call s = answer-other (deskAfter passwords call s .answer)
+no-8106 passwords (DeskCall.load p key) s = load-answer-holds Other refusal-other passwords s p key refl
+no-8106 passwords (DeskCall.named request serial clock) s =
+    named-answer-holds Other refusal-other passwords s request serial clock (λ at r. success-other _ clock _ request)
 
 -- and no call has it among its codes
 pub not-listed : (call : DeskCall) → oneOf 0x8106 (codesOf call) ≡ false
@@ -169,27 +76,28 @@ not-listed (DeskCall.named request serial clock) = by-request request
 
 -- ---- an accepted step is a candidate
 
-abbrev NearIn : List ℕ → ℕ → ℕ → ℕ → Answer → Type 0
-NearIn s at clock x answer =
-    stepOf answer ≡ some x → rowAt s at .track .rule .kind ≡ timeToken → distance x (stepAt clock (rowAt s at .track .period)) ≤ 600
+abbrev NearIn : Track → ℕ → Answer → Type 0
+NearIn k clock answer =
+    (a d : ℕ) → checkedOf answer ≡ some (record { 0 = a }, record { 0 = d }) → k .scheme .kind ≡ timeToken → distance a (stepAt clock (k .period)) ≤ 600
 
-module _ (s : List ℕ) (at clock x : ℕ) where
-  refusal-near : (f : Refusal) → NearIn s at clock x (Answer.Refused f)
-  refusal-near f e t = let z : _≡_ {A = ℕ} 0 1 = cc in absurd (omega arith)
+module _ (passwords : PasswordRule) (request : Request) (serial clock : ℕ) (s : List ℕ) (at : ℕ) (r : Reached request serial clock s at) where
+  sound : Sound (rowNow s at clock .track) clock
+  sound = rw (waited-track (rowAt s at) clock) (row-sound lastState (rowAt s at) (numbers-of lastState s at (r .formed)) clock (ltb-true clock (2 ^ 40) (r .fit .timely)))
 
-  candidate-accepted-near : (call : Call) (size : Size) (a : Step) (d : Offset) → candidate (rowAt s at .track) clock size (a .0) ≡ true
-      → NearIn s at clock x (Answer.Success call (Content.Checked a d))
-  candidate-accepted-near call size a d c e t = let y : a .0 ≡ x = cc in rw y at (candidate-near (rowAt s at .track) clock size (a .0) c t)
+  abbrev SuccessNear : Track → Way → Type 0
+  SuccessNear k way = Succeeds (NearIn k clock) (lineFor request) (rowNow s at clock) clock (checkAt passwords request s at clock) way
 
-  requested-near : (passwords : PasswordRule) (request : Request) → NearIn s at clock x (requestedAt passwords request clock s at .answer)
-  requested-near passwords request =
-      requested-holds s at clock (NearIn s at clock x) refusal-near
-      (λ call e t. let z : _≡_ {A = ℕ} 0 1 = cc in absurd (omega arith)) (λ status e t. let z : _≡_ {A = ℕ} 0 1 = cc in absurd (omega arith))
-      candidate-accepted-near passwords request
+  way-near : (way : Way) → SuccessNear (rowNow s at clock .track) way
+  way-near Way.Changes = λ a d e. impossible (cc)
+  way-near Way.Tells = λ a d e. impossible (cc)
+  way-near (Way.Checks asked f) = λ b accepted a d e.
+      let same : b .0 ≡ a = ap (λ (o : Option (Step × Offset)). Option·getD o (b, record { 0 = d }) .0 .0) e in
+      rw same at (checked-near passwords (rowNow s at clock .track) clock (secretAt s at) (challengeOf request) asked (Outcome.Accepted b) sound (sym accepted) .close)
+
+  success-near : SuccessNear (rowAt s at .track) (lineFor request .way)
+  success-near = subst (λ (k : Track). SuccessNear k (lineFor request .way)) (waited-track (rowAt s at) clock) (way-near (lineFor request .way))
 
 pub accepted-near : AcceptedNear
-unfolding deskAfter
-accepted-near passwords request serial clock s at a found =
-    either (λ (x : Result). NearIn s at clock a (x .answer)) (tableOk s && (clockOk clock && requestOk request))
-    (rw found (requested-near s at clock a passwords request))
-    (refusal-near s at clock a Refusal.BadArgument)
+accepted-near passwords request serial clock s at a d found =
+    named-answer-holds (NearIn (rowAt s at .track) clock) (λ f a d e. impossible (cc)) passwords s request serial clock
+    (λ by r. let here : by ≡ at = cc in rw (← here) (success-near passwords request serial clock s by r)) a d

@@ -5,28 +5,29 @@ use mathlib.Core.Bool.{Bool, true, false, _&&_, _||_}
 use mathlib.Core.List.{List, [], _∷_, _++_}
 use mathlib.Core.Logic.{_⊎_, inl, inr}
 use native.Mathlib.Omega.{arith}
-use borrow.Author.Tests.{leb-true, leb-false, eqb-true}
+use borrow.Author.Tests.{leb-true, leb-false}
 use lib.Dec.{eqb, leb}
 use lib.ListN.{length, getD}
 use Rattle.words.specs.Bytes.{put, beBytes}
 use Rattle.words.specs.PutLaws.{put-length, getD-put}
-use Rattle.words.specs.ListsLaws.{by-test}
-use Rattle.words.specs.Tables.{and-left, and-right, or-left, or-right}
-use Rattle.words.specs.Branches.{either, either-by}
-use Rattle.window.specs.CheckLaws.{clash}
-use Rattle.window.specs.WindowLaws.{and-both}
+use Rattle.words.specs.BoolLaws.{by-test, and-left, and-right, or-left, or-right, either, and-both, clash}
+use Rattle.window.specs.declared.Track.{Track}
+use Rattle.window.specs.declared.Outcome.{Outcome}
+use Rattle.window.specs.declared.asked.Asked.{Asked}
 use Rattle.window.specs.PasswordAt.{PasswordRule}
+use Rattle.row.specs.declared.Row.{Row}
 use Rattle.row.specs.declared.reading.Place.{Place}
-use Rattle.row.specs.StoreLaws.{length-zeroFilled}
-use Rattle.row.specs.TableLaws.{found-within, empty-within}
-use Rattle.token.specs.declared.calls.Call.{Call}
+use Rattle.row.specs.Row.{rowBytes}
+use Rattle.row.specs.FoundLaws.{found-within, empty-within}
+use Rattle.row.specs.WriteLaws.{length-zeroFilled}
 use Rattle.token.specs.declared.answers.Refusal.{Refusal}
 use Rattle.token.specs.declared.answers.Answer.{Answer}
-use Rattle.token.specs.Codes.{successNumber, refusalNumber, numberOf}
+use Rattle.token.specs.Codes.{refusalNumber, numberOf}
 use Rattle.desk.specs.declared.Particulars.{Particulars}
-use Rattle.desk.specs.Requests.{DeskCall, tableOk, loadOk}
+use Rattle.desk.specs.Requests.{Request, DeskCall}
 use Rattle.desk.specs.Desk.{deskAfter}
 use Rattle.desk.specs.LoadLaws.{loaded-key-short}
+use Rattle.desk.specs.BranchLaws.{load-holds, lineFor, Succeeds, named-answer-holds, by-refusal}
 use Rattle.desk.specs.Demand1BytesLaws.{demand-1-bytes}
 use Rattle.desk.specs.Demand1Bytes.{Change, laid, state, errors, next, lockedAt, lastUse, byte, waitRunOut, ranOut, oneMore, acceptedStep, besides, leftBy, loaded, rowOf, stepIn, changesFor, leftIn, Part, partsOf, inParts, OtherBytesStay}
 use Rattle.desk.specs.LaidLaws.{end}
@@ -38,7 +39,7 @@ within (p ∷ parts) c = (leb (p .first) (c .offset) && leb (end c) (p .last + 1
 
 -- and in the row
 abbrev fitting : List Part → Change → Bool
-fitting parts c = leb (end c) 96 && within parts c
+fitting parts c = leb (end c) rowBytes && within parts c
 
 abbrev allFitting : List Part → List Change → Bool
 allFitting parts [] = true
@@ -60,24 +61,24 @@ outside at i (p ∷ parts) c t f =
     let rest = inParts (Place.At at) parts i in
     by-test (low && high)
     (λ b.
-    let l = leb-true (p .first) (c .offset) (and-left low high b) in
-    let h = leb-true (end c) (p .last + 1) (and-right low high b) in
+    let l = leb-true (p .first) (c .offset) (and-left _ _ b) in
+    let h = leb-true (end c) (p .last + 1) (and-right low _ b) in
     by-test after
     (λ g. let k = leb-false i (at + p .last) (rw g at (or-left (after && before) rest f)) in inr (omega arith))
     (λ g. let k = leb-false (at + p .first) i g in inl (omega arith)))
     (λ b. outside at i parts c (rw b at t) (or-right (after && before) rest f))
 
 module _ (at : ℕ) (parts : List Part) where
-  laid-stays : (s : List ℕ) (cs : List Change) → at + 96 ≤ length s → allFitting parts cs ≡ true → Stays (Place.At at) parts s (laid s at cs)
+  laid-stays : (s : List ℕ) (cs : List Change) → at + rowBytes ≤ length s → allFitting parts cs ≡ true → Stays (Place.At at) parts s (laid s at cs)
   laid-stays s [] room t = (refl, λ i f. refl)
   laid-stays s (c ∷ cs) room t =
       let place = at + c .offset in
-      let first = and-left (fitting parts c) (allFitting parts cs) t in
-      let fits = leb-true (end c) 96 (and-left (leb (end c) 96) (within parts c) first) in
+      let first = and-left _ _ t in
+      let fits = leb-true (end c) rowBytes (and-left _ _ first) in
       let kept : length (put s place (c .bytes)) ≡ length s = put-length s place (c .bytes) (omega arith) in
-      let later = laid-stays (put s place (c .bytes)) cs (rw kept room) (and-right (fitting parts c) (allFitting parts cs) t) in
+      let later = laid-stays (put s place (c .bytes)) cs (rw kept room) (and-right (fitting parts c) _ t) in
       let stays : (i : ℕ) → inParts (Place.At at) parts i ≡ false → getD (put s place (c .bytes)) i 0 ≡ getD s i 0 =
-      λ i f. getD-put s place (c .bytes) i (omega arith) (outside at i parts c (and-right (leb (end c) 96) (within parts c) first) f) in
+      λ i f. getD-put s place (c .bytes) i (omega arith) (outside at i parts c (and-right (leb (end c) rowBytes) _ first) f) in
       (later .0 ∙ kept, λ i f. later .1 i f ∙ stays i f)
 
 append-fitting : (parts : List Part) (cs ds : List Change) → allFitting parts cs ≡ true → allFitting parts ds ≡ true → allFitting parts (cs ++ ds) ≡ true
@@ -109,41 +110,27 @@ module _ (s : List ℕ) (at clock : ℕ) where
 
   refusal-covered : (f : Refusal) → Covered (refusalNumber f) 0
   unfolding beBytes
-  refusal-covered Refusal.BadArgument = refl
-  refusal-covered Refusal.AlreadyLoaded = refl
-  refusal-covered Refusal.TableFull = refl
-  refusal-covered Refusal.Unknown = refl
-  refusal-covered Refusal.Damaged = refl
-  refusal-covered Refusal.Ready = waited-covered _ [] refl refl
-  refusal-covered Refusal.Locked = waited-covered _ [] refl refl
-  refusal-covered Refusal.Suspended = waited-covered _ [] refl refl
-  refusal-covered Refusal.Inactive = waited-covered _ [] refl refl
-  refusal-covered Refusal.Void = waited-covered _ [] refl refl
-  refusal-covered Refusal.Expired = waited-covered _ [] refl refl
-  refusal-covered Refusal.UsedAtLogin = waited-covered _ _ refl login-fits
-  refusal-covered Refusal.Used = waited-covered _ _ refl refl
-  refusal-covered Refusal.WrongAtLogin = waited-covered _ _ refl login-fits
-  refusal-covered Refusal.Wrong = waited-covered _ _ refl refl
-  refusal-covered Refusal.WrongAtSync = waited-covered _ _ refl refl
+  refusal-covered =
+      let kept = waited-covered (partsOf 0x8408) [] refl refl in
+      let login = waited-covered (partsOf 0x8004) (besides s at clock 0x8004 0) refl login-fits in
+      let counted = waited-covered (partsOf 0x8104) (besides s at clock 0x8104 0) refl refl in
+      by-refusal (λ f. Covered (refusalNumber f) 0) refl refl refl refl refl kept kept kept kept kept kept login counted login counted counted
 
-  success-covered : (call : Call) (a : ℕ) → Covered (successNumber call) a
+  abbrev AnswerCovered : Answer → Type 0
+  AnswerCovered answer = Covered (numberOf answer) (stepIn answer)
+
+  success-covered : (w : Row) (check : Track → Asked → Outcome) (request : Request) → Succeeds AnswerCovered (lineFor request) w clock check (lineFor request .way)
   unfolding beBytes
-  success-covered Call.Load a = waited-covered _ [] refl refl
-  success-covered Call.Login a = waited-covered _ _ refl (step-fits a)
-  success-covered Call.ChallengeLogin a = waited-covered _ _ refl (step-fits a)
-  success-covered Call.Activate a = waited-covered _ _ refl (step-fits a)
-  success-covered Call.Lock a = waited-covered _ _ refl refl
-  success-covered Call.Unlock a = waited-covered _ _ refl (step-fits a)
-  success-covered Call.Suspend a = waited-covered _ _ refl refl
-  success-covered Call.Resume a = waited-covered _ _ refl (step-fits a)
-  success-covered Call.SyncMedium a = waited-covered _ _ refl (step-fits a)
-  success-covered Call.SyncLarge a = waited-covered _ _ refl (step-fits a)
-  success-covered Call.Void a = waited-covered _ _ refl refl
-  success-covered Call.Query a = refl
-
-  answer-covered : (answer : Answer) → Covered (numberOf answer) (stepIn answer)
-  answer-covered (Answer.Success call content) = success-covered call (stepIn (Answer.Success call content))
-  answer-covered (Answer.Refused refusal) = refusal-covered refusal
+  success-covered w check (Request.login password) = λ a e. waited-covered _ _ refl (step-fits (a .0))
+  success-covered w check (Request.challengeLogin challenge password) = λ a e. waited-covered _ _ refl (step-fits (a .0))
+  success-covered w check (Request.activate password following) = λ a e. waited-covered _ _ refl (step-fits (a .0))
+  success-covered w check Request.lock = waited-covered _ _ refl refl
+  success-covered w check (Request.unlock password) = λ a e. waited-covered _ _ refl (step-fits (a .0))
+  success-covered w check Request.suspend = waited-covered _ _ refl refl
+  success-covered w check (Request.resume password) = λ a e. waited-covered _ _ refl (step-fits (a .0))
+  success-covered w check (Request.sync choice password following) = λ a e. waited-covered _ _ refl (step-fits (a .0))
+  success-covered w check Request.void = waited-covered _ _ refl refl
+  success-covered w check Request.query = refl
 
 load-fits : (p : Particulars) (key : List ℕ) → length key ≤ 32 → allFitting (partsOf 0x0140) (loaded p key) ≡ true
 unfolding beBytes
@@ -152,21 +139,22 @@ load-fits p key short = rw (length-zeroFilled key short)
 -- ---- the calls
 
 module _ (passwords : PasswordRule) (s : List ℕ) where
-  -- a load that is made has a key of at most 32 bytes
-  short-key : (p : Particulars) (key : List ℕ) → eqb (numberOf (deskAfter passwords (DeskCall.load p key) s .answer)) 0x0140 ≡ true → length key ≤ 32
-  unfolding deskAfter
-  short-key p key t = by-test (tableOk s && loadOk p key) (λ fit. loaded-key-short p key (and-right (tableOk s) (loadOk p key) fit)) (λ unfit. clash (rw unfit at t) refl)
-
   changes-covered : (call : DeskCall) (at : ℕ)
       → allFitting (partsOf (numberOf (deskAfter passwords call s .answer))) (changesFor call s at (deskAfter passwords call s .answer)) ≡ true
   changes-covered (DeskCall.load p key) at =
-      let code = numberOf (deskAfter passwords (DeskCall.load p key) s .answer) in
-      either-by (λ (cs : List Change). allFitting (partsOf code) cs ≡ true) (eqb code 0x0140) (λ t. rw (eqb-true code 0x0140 t) (load-fits p key (short-key p key t))) (λ f. refl)
-  changes-covered (DeskCall.named request serial clock) at = answer-covered s at clock (deskAfter passwords (DeskCall.named request serial clock) s .answer)
+      load-holds passwords s (λ x. allFitting (partsOf (numberOf (x .answer))) (changesFor (DeskCall.load p key) s at (x .answer)) ≡ true) p key
+      (record {
+        bad = λ t. refl;
+        taken = λ fit other e. refl;
+        full = λ fit none e. refl;
+        made = λ fit none by e. load-fits p key (loaded-key-short p key (fit .values));
+      })
+  changes-covered (DeskCall.named request serial clock) at =
+      named-answer-holds (AnswerCovered s at clock) (refusal-covered s at clock) passwords s request serial clock (λ by r. success-covered s at clock _ _ request)
 
-  row-within : (call : DeskCall) (at : ℕ) → rowOf call s ≡ Place.At at → at + 96 ≤ length s
-  row-within (DeskCall.load p key) at e = empty-within s at e
-  row-within (DeskCall.named request serial clock) at e = found-within s serial at e
+  row-within : (call : DeskCall) (at : ℕ) → rowOf call s ≡ Place.At at → at + rowBytes ≤ length s
+  row-within (DeskCall.load p key) at e = empty-within rowBytes s (omega arith) at e
+  row-within (DeskCall.named request serial clock) at e = found-within rowBytes s serial (omega arith) at e
 
   stays-in : (call : DeskCall) (place : Place) → rowOf call s ≡ place → Stays place (partsOf (numberOf (deskAfter passwords call s .answer))) s (leftIn call s (deskAfter passwords call s .answer))
   stays-in call (Place.At at) e =

@@ -1,15 +1,18 @@
 -- The calls with their arguments, and which arguments are in range (document 01, Part 5 and "What a turned-down call says", 9005).
 use Prim.Native.Nat.{ℕ, _^_, _/_, _%_}
-use mathlib.Core.Bool.{Bool, true, _&&_, _||_}
-use mathlib.Core.List.{List}
+use mathlib.Core.Bool.{Bool, true, _&&_, _||_, cond}
+use mathlib.Core.List.{List, []}
 use lib.Dec.{eqb, leb, ltb}
 use lib.ListN.{length}
-use Rattle.words.specs.Lists.{allWithin}
 use Rattle.otp.specs.Password.{challengeOk}
+use Rattle.otp.specs.Typed.{passwordOk, asPassword}
+use Rattle.window.specs.declared.Size.{Size}
+use Rattle.window.specs.declared.Size.the-variants.{Medium, Large}
 use Rattle.window.specs.Window.{farthest}
 use Rattle.row.specs.declared.Row.{Row}
-use Rattle.row.specs.Row.{rowBytes, numbersOk}
-use Rattle.token.specs.Calls.{inactive}
+use Rattle.row.specs.Row.{lastState, numbersOk}
+use Rattle.token.specs.declared.lines.Request.{Request as Valued}
+use Rattle.token.specs.Lines.{inactive}
 use Rattle.desk.specs.declared.Particulars.{Particulars}
 
 -- what is asked of a token that a call names, with the arguments of its own: passwords and a challenge are bytes
@@ -30,18 +33,44 @@ pub data DeskCall : Type 0 where
   load : (particulars : Particulars) (key : List ℕ) → DeskCall
   named : (request : Request) (serial clock : ℕ) → DeskCall
 
+abbrev pub loginCall : List ℕ → ℕ → ℕ → DeskCall
+loginCall password serial clock = DeskCall.named (Request.login password) serial clock
+
+abbrev pub challengeCall : List ℕ → List ℕ → ℕ → ℕ → DeskCall
+challengeCall challenge password serial clock = DeskCall.named (Request.challengeLogin challenge password) serial clock
+
+abbrev pub activateCall : List ℕ → List ℕ → ℕ → ℕ → DeskCall
+activateCall password following serial clock = DeskCall.named (Request.activate password following) serial clock
+
+abbrev pub lockCall : ℕ → ℕ → DeskCall
+lockCall serial clock = DeskCall.named Request.lock serial clock
+
+abbrev pub unlockCall : List ℕ → ℕ → ℕ → DeskCall
+unlockCall password serial clock = DeskCall.named (Request.unlock password) serial clock
+
+abbrev pub suspendCall : ℕ → ℕ → DeskCall
+suspendCall serial clock = DeskCall.named Request.suspend serial clock
+
+abbrev pub resumeCall : List ℕ → ℕ → ℕ → DeskCall
+resumeCall password serial clock = DeskCall.named (Request.resume password) serial clock
+
+abbrev pub syncCall : ℕ → List ℕ → List ℕ → ℕ → ℕ → DeskCall
+syncCall choice password following serial clock = DeskCall.named (Request.sync choice password following) serial clock
+
+abbrev pub voidCall : ℕ → ℕ → DeskCall
+voidCall serial clock = DeskCall.named Request.void serial clock
+
+abbrev pub queryCall : ℕ → ℕ → DeskCall
+queryCall serial clock = DeskCall.named Request.query serial clock
+
 -- ---- arguments in range
 
--- 96 times 1 to 256 bytes
-unfoldable pub tableOk : List ℕ → Bool
-tableOk s = eqb (length s % rowBytes) 0 && (leb 1 (length s / rowBytes) && leb (length s / rowBytes) 256)
+-- 1 to 256 rows of a width
+unfoldable pub tableOk : ℕ → List ℕ → Bool
+tableOk width s = eqb (length s % width) 0 && (leb 1 (length s / width) && leb (length s / width) 256)
 
 abbrev pub clockOk : ℕ → Bool
 clockOk clock = ltb clock (2 ^ 40)
-
--- 6 to 10 ASCII digits
-unfoldable pub passwordOk : List ℕ → Bool
-passwordOk p = (leb 6 (length p) && leb (length p) 10) && allWithin 0x30 0x39 p
 
 -- a challenge login needs its challenge
 unfoldable pub challengeGiven : List ℕ → Bool
@@ -63,22 +92,66 @@ requestOk (Request.sync choice password following) = choiceOk choice && (passwor
 requestOk Request.void = true
 requestOk Request.query = true
 
+-- ---- the request as a value: passwords as numbers, the challenge beside it
+
+abbrev pub sizeOf : ℕ → Size
+sizeOf choice = cond (eqb choice 1) Medium Large
+
+abbrev pub valued : Request → Valued
+valued (Request.login password) = Valued.Login (asPassword password)
+valued (Request.challengeLogin challenge password) = Valued.ChallengeLogin (asPassword password)
+valued (Request.activate password following) = Valued.Activate (asPassword password) (asPassword following)
+valued Request.lock = Valued.Lock
+valued (Request.unlock password) = Valued.Unlock (asPassword password)
+valued Request.suspend = Valued.Suspend
+valued (Request.resume password) = Valued.Resume (asPassword password)
+valued (Request.sync choice password following) = Valued.Sync (sizeOf choice) (asPassword password) (asPassword following)
+valued Request.void = Valued.Void
+valued Request.query = Valued.Query
+
+-- the challenge lent beside it is in range: a challenge login needs one
+abbrev pub challengeFits : Valued → List ℕ → Bool
+challengeFits (Valued.Login p) q = challengeOk q
+challengeFits (Valued.ChallengeLogin p) q = challengeGiven q
+challengeFits (Valued.Activate p r) q = challengeOk q
+challengeFits Valued.Lock q = challengeOk q
+challengeFits (Valued.Unlock p) q = challengeOk q
+challengeFits Valued.Suspend q = challengeOk q
+challengeFits (Valued.Resume p) q = challengeOk q
+challengeFits (Valued.Sync size p r) q = challengeOk q
+challengeFits Valued.Void q = challengeOk q
+challengeFits Valued.Query q = challengeOk q
+
+abbrev pub challengeOf : Request → List ℕ
+challengeOf (Request.login password) = []
+challengeOf (Request.challengeLogin challenge password) = challenge
+challengeOf (Request.activate password following) = []
+challengeOf Request.lock = []
+challengeOf (Request.unlock password) = []
+challengeOf Request.suspend = []
+challengeOf (Request.resume password) = []
+challengeOf (Request.sync choice password following) = []
+challengeOf Request.void = []
+challengeOf Request.query = []
+
+-- ---- a load
+
 -- the row that a load sets: state 1; next, d, errors and times are 0
 abbrev pub loadedRow : Particulars → List ℕ → Row
 loadedRow p key =
     record {
       state = inactive;
-      track = record { rule = p .rule; period = p .period; next = record { 0 = 0 }; offset = record { 0 = farthest } };
+      track = record { scheme = p .scheme; period = p .period; next = record { 0 = 0 }; offset = record { 0 = farthest } };
       limit = p .limit;
       errors = 0;
-      length = length key;
+      «key_length» = length key;
       serial = p .serial;
       wait = p .wait;
       expiry = p .expiry;
-      locked = record { 0 = 0 };
-      used = record { 0 = 0 };
+      «locked_at» = record { 0 = 0 };
+      «last_use» = record { 0 = 0 };
     }
 
 -- a load's values are in range if the serial has 8 bytes and the row that they give keeps Part 4's list
 unfoldable pub loadOk : Particulars → List ℕ → Bool
-loadOk p key = ltb (p .serial) (2 ^ 64) && numbersOk (loadedRow p key)
+loadOk p key = ltb (p .serial) (2 ^ 64) && numbersOk lastState (loadedRow p key)

@@ -1,31 +1,29 @@
 // The desk over a lent table of tokens (document 01, Part 5): eleven calls, each with the answer and every byte of the table by an equation.
 mod arguments;
-mod checked_calls;
+mod calls;
 mod loading;
-mod naming;
-mod plain_calls;
-mod querying;
+mod serving;
 
 pub use arguments::MOST_ROWS;
-pub use arguments::password_ok;
-pub use checked_calls::activate;
-pub use checked_calls::challenge_login;
-pub use checked_calls::login;
-pub use checked_calls::resume;
-pub use checked_calls::sync;
-pub use checked_calls::unlock;
+pub use calls::activate;
+pub use calls::challenge_login;
+pub use calls::lock;
+pub use calls::login;
+pub use calls::resume;
+pub use calls::suspend;
+pub use calls::sync;
+pub use calls::unlock;
+pub use calls::void;
 pub use loading::load;
-pub use plain_calls::lock;
-pub use plain_calls::suspend;
-pub use plain_calls::void;
-pub use querying::query;
-use window::Rule;
+pub use serving::query;
+pub use serving::serve;
+use window::Scheme;
 use window::Seconds;
 
 // What a load sets of a token, besides its key.
 pub struct Particulars {
     pub serial: u64,
-    pub rule: Rule,
+    pub scheme: Scheme,
     pub period: u8,
     pub limit: u8,
     pub wait: u32,

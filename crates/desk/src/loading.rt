@@ -2,15 +2,16 @@
 use crate::Particulars;
 use crate::arguments::table_ok;
 use row::KEY_BYTES;
+use row::LAST_STATE;
 use row::NOT_ACTIVATED;
 use row::Place;
+use row::ROW_BYTES;
 use row::Row;
 use row::find_empty;
 use row::find_row;
 use row::numbers_ok;
 use row::write_row;
 use token::Answer;
-use token::Call;
 use token::Content;
 use token::Refusal;
 use window::FARTHEST;
@@ -23,17 +24,19 @@ ghost use Prim.Native.Nat.{_≤_};
 ghost use lib.ListN.{length};
 ghost use Rattle.window.specs.PasswordAt.{passwordAt};
 ghost use Rattle.desk.specs.Requests.{DeskCall, loadedRow, loadOk};
-ghost use Rattle.desk.specs.Desk.{deskAfter};
+ghost use Rattle.desk.specs.Desk.{result, deskAfter};
+
+const LOADED: u16 = 0x0140;
 
 // The row that a load sets: not activated; next, d, errors and times are 0.
 fn loaded_row(particulars: Particulars, key: &[u8]) -> Row
     requires { ⌜ length (now key) ≤ 32 ⌝ }
     ensures { λ r. ⌜ r ≡ loadedRow particulars (now (key .entry)) ⌝ }
 {
-    let rule = particulars.rule;
+    let scheme = particulars.scheme;
     let expiry = particulars.expiry;
     let track = Track {
-        rule,
+        scheme,
         period: particulars.period,
         next: Step(0),
         offset: Offset(FARTHEST as u16),
@@ -43,12 +46,12 @@ fn loaded_row(particulars: Particulars, key: &[u8]) -> Row
         track,
         limit: particulars.limit,
         errors: 0,
-        length: key.len() as u8,
+        key_length: key.len() as u8,
         serial: particulars.serial,
         wait: particulars.wait,
         expiry,
-        locked: Seconds(0),
-        used: Seconds(0),
+        locked_at: Seconds(0),
+        last_use: Seconds(0),
     }
 }
 
@@ -59,23 +62,22 @@ fn load_ok(particulars: Particulars, key: &[u8]) -> bool
     if KEY_BYTES < key.len() {
         return false;
     }
-    numbers_ok(loaded_row(particulars, key))
+    numbers_ok(LAST_STATE, loaded_row(particulars, key))
 }
 
 // The call `load`: the token goes to the first empty row.
 pub fn load(table: &mut [u8], particulars: Particulars, key: &[u8]) -> Answer
-    ensures { λ r. ⌜ r ≡ deskAfter passwordAt (DeskCall.load particulars (now (key .entry))) (now (table .entry)) .answer ⌝ }
-    ensures { λ _. ⌜ now (table .exit) ≡ deskAfter passwordAt (DeskCall.load particulars (now (key .entry))) (now (table .entry)) .table ⌝ }
+    ensures { λ r. ⌜ result r (now (table .exit)) ≡ deskAfter passwordAt (DeskCall.load particulars (now (key .entry))) (now (table .entry)) ⌝ }
 {
     if !(table_ok(table) & load_ok(particulars, key)) {
         return Answer::Refused(Refusal::BadArgument);
     }
-    if let Place::At(_) = find_row(table, particulars.serial) {
+    if let Place::At(_) = find_row(table, ROW_BYTES, particulars.serial) {
         return Answer::Refused(Refusal::AlreadyLoaded);
     }
-    let Place::At(at) = find_empty(table) else {
+    let Place::At(at) = find_empty(table, ROW_BYTES) else {
         return Answer::Refused(Refusal::TableFull);
     };
     write_row(table, at, loaded_row(particulars, key), key);
-    Answer::Success(Call::Load, Content::Plain)
+    Answer::Success(LOADED, Content::Plain)
 }

@@ -8,11 +8,12 @@ use lib.ListN.{length, take, drop}
 use lib.Seq.{length-take-le, take-take}
 use Rattle.lines.specs.Lines.{cut, last, Held}
 use Rattle.lines.specs.LinesLaws.{lines-cut}
-use Rattle.lines.specs.BufferLaws.{clash}
+use Rattle.words.specs.BoolLaws.{clash}
 use Rattle.window.specs.PasswordAt.{PasswordRule}
 use Rattle.script.specs.Script.{Stage, stageIn, Serves, Follows}
 use Rattle.script.specs.ScriptLaws.{served-join}
-use Rattle.script.specs.FillLaws.{rest, rest-length, next-bytes, Sized, sized-more}
+use Rattle.script.specs.Sizes.{outputBytes, Sized}
+use Rattle.script.specs.FillLaws.{rest, rest-length, next-bytes, sized-more}
 use Rattle.desk_lines.specs.Input.{Bounds, Advances, Leaves, ServesInput}
 use Rattle.desk_lines.specs.AdvanceLaws.{follows-advances, advances-none, advances-join, leaves-none, leaves-more}
 
@@ -38,7 +39,7 @@ module _ (passwords : PasswordRule) where
       → Serving line₀ n stage piece line table out pending fresh rows at
       → {line′ table′ out′ : List ℕ} {used n′ : ℕ} {fresh′ : Bool} {rows′ end : ℕ}
       → length line′ ≡ length line → length table′ ≡ length table → length out′ ≡ length out
-      → (used ≤ length (rest piece at)) × ((1 ≤ length (rest piece at) → 1 ≤ used) × ((n′ ≤ 4097) × ((rows′ ≤ 256) × (end ≤ 114944))))
+      → (used ≤ length (rest piece at)) × ((1 ≤ length (rest piece at) → 1 ≤ used) × ((n′ ≤ 4097) × ((rows′ ≤ 256) × (end ≤ outputBytes))))
       → Follows passwords line pending (take used (rest piece at)) line′ n′ (stageIn fresh rows table) (stageIn fresh′ rows′ table′) out 0 out′ end
       → Serving line₀ n stage piece line′ table′ out′ n′ fresh′ rows′ (at + used)
   serving-more {piece = piece} {at = at} serving {used = used} size cells space bounds f =
@@ -52,7 +53,7 @@ module _ (passwords : PasswordRule) where
   module _ {line₀ : List ℕ} {n : ℕ} {stage : Stage} {piece line table out : List ℕ} {pending : ℕ} {fresh : Bool} {rows at : ℕ}
       (serving : Serving line₀ n stage piece line table out pending fresh rows at) where
     pub piece-stopped : Bounds false (length piece) at pending rows
-    piece-stopped = record { part = serving .within; all = clash refl; marked = serving .sized .marked; few = serving .sized .few }
+    piece-stopped = record { part = serving .within; all = λ t. clash t refl; marked = serving .sized .marked; few = serving .sized .few }
 
     pub piece-done : length piece ≤ at → Bounds true (length piece) at pending rows
     piece-done l = record { part = serving .within; all = λ t. omega (arith, serving .within); marked = serving .sized .marked; few = serving .sized .few }
@@ -105,7 +106,7 @@ module _ (passwords : PasswordRule) where
         lines = cut [] (l .input) .whole;
         rest = last (cut [] (l .input) .pending);
         split = lines-cut (l .input);
-        all = clash refl;
+        all = λ t. clash t refl;
         staged = l .staged;
       }
 
@@ -138,4 +139,4 @@ module _ (passwords : PasswordRule) where
     where
       none-failed : (ok none : Bool) → not ok || none ≡ false → ok ≡ true
       none-failed true none e = refl
-      none-failed false none e = clash e refl
+      none-failed false none e = clash refl e

@@ -13,6 +13,7 @@ ghost use mathlib.Core.Bool.{false};
 ghost use Prim.Native.Nat.{_+_, _≤_};
 ghost use lib.ListN.{length};
 ghost use Rattle.window.specs.PasswordAt.{passwordAt};
+ghost use Rattle.script.specs.Sizes.{tableBytes};
 ghost use Rattle.script.specs.Script.{stageIn};
 ghost use Rattle.desk_lines.specs.Input.{ServesInput};
 
@@ -27,7 +28,7 @@ pub(crate) struct Loaded {
 
 // Reads the table.
 fn load(path: &[u8], table: &mut [u8]) -> Loaded
-    requires { ⌜ length (now table) ≡ 24576 ⌝ }
+    requires { ⌜ length (now table) ≡ tableBytes ⌝ }
     ensures { λ r. ⌜ r .rows ≤ 256 ⌝ }
 {
     let fd = os::open_read(path);
@@ -148,7 +149,7 @@ fn replace(path: &[u8], table: &[u8]) -> bool
 // Serves the input on the table that the file held, keeps the answers aside and saves the table.
 fn serve_file(path: &[u8], table: &mut [u8], rows: usize, answers: i32) -> Done
     requires { ⌜ length (now path) ≤ 4096 ⌝ }
-    requires { ⌜ length (now table) ≡ 24576 ⌝ }
+    requires { ⌜ length (now table) ≡ tableBytes ⌝ }
     requires { ⌜ rows ≤ 256 ⌝ }
     ensures { λ r. ⌜ ServesInput passwordAt (r .ok) (stageIn false rows (now (table .entry))) (stageIn (r .fresh) (r .rows) (now (table .exit))) ⌝ }
 {
@@ -189,7 +190,7 @@ fn print_answers(answers: i32) -> bool {
 
 // Serves the input on the table in the file that the program's argument names.
 pub(crate) fn serve_argument(table: &mut [u8])
-    requires { ⌜ length (now table) ≡ 24576 ⌝ }
+    requires { ⌜ length (now table) ≡ tableBytes ⌝ }
 {
     let mut path = [0u8; PATH_MAX];
     let n = os::arg(1, &mut path);

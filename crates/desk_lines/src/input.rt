@@ -1,8 +1,9 @@
 // The whole input: read in pieces, and what its lines print written out.
 use libc::STDIN_FILENO;
 use libc::STDOUT_FILENO;
-use script::serving::LONGEST;
 use script::serving::Stage;
+use script::sizes::LONGEST;
+use script::sizes::OUTPUT;
 use script::stream::fill;
 use script::stream::finish;
 ghost use mathlib.Core.Path.{_≡_};
@@ -10,16 +11,11 @@ ghost use mathlib.Core.Bool.{true};
 ghost use Prim.Native.Nat.{_≤_};
 ghost use lib.ListN.{length, take};
 ghost use Rattle.window.specs.PasswordAt.{passwordAt};
+ghost use Rattle.script.specs.Sizes.{tableBytes, Sized};
 ghost use Rattle.script.specs.Script.{start, stageIn};
 ghost use Rattle.desk_lines.specs.Input.{Bounds, Advances, Leaves, ServesInput};
 
-// 256 rows.
-pub(crate) const TABLE: usize = 24576;
-
 const PIECE: usize = 65536;
-
-// Beside what is not written out yet, room for all rows as text.
-const OUTPUT: usize = 114944;
 
 // Whether the read and the writes went well, how many bytes were read, how many of them are served, the pending line's length, and the stage.
 pub(crate) struct Progress {
@@ -41,11 +37,7 @@ fn serve_piece(
     piece: &[u8],
     out: &mut [u8],
 ) -> Progress
-    requires { ⌜ length (now line) ≡ 4096 ⌝ }
-    requires { ⌜ n ≤ 4097 ⌝ }
-    requires { ⌜ length (now table) ≡ 24576 ⌝ }
-    requires { ⌜ stage .rows ≤ 256 ⌝ }
-    requires { ⌜ length (now out) ≡ 114944 ⌝ }
+    requires { ⌜ Sized (now line) (now table) (now out) n (stage .rows) ⌝ }
     ensures { λ r. ⌜ (r .read ≡ length (now (piece .entry))) × Bounds (r .ok) (r .read) (r .used) (r .n) (r .rows) ⌝ }
     ensures { λ r. ⌜ Advances passwordAt (now (line .entry)) n (take (r .used) (now (piece .entry))) (now (line .exit)) (r .n) (stageIn (stage .fresh) (stage .rows) (now (table .entry))) (stageIn (r .fresh) (r .rows) (now (table .exit))) ⌝ }
 {
@@ -92,12 +84,8 @@ fn serve_next(
     piece: &mut [u8],
     out: &mut [u8],
 ) -> Progress
-    requires { ⌜ length (now line) ≡ 4096 ⌝ }
-    requires { ⌜ n ≤ 4097 ⌝ }
-    requires { ⌜ length (now table) ≡ 24576 ⌝ }
-    requires { ⌜ stage .rows ≤ 256 ⌝ }
+    requires { ⌜ Sized (now line) (now table) (now out) n (stage .rows) ⌝ }
     requires { ⌜ length (now piece) ≡ 65536 ⌝ }
-    requires { ⌜ length (now out) ≡ 114944 ⌝ }
     ensures { λ r. ⌜ (r .read ≤ 65536) × Bounds (r .ok) (r .read) (r .used) (r .n) (r .rows) ⌝ }
     ensures { λ r. ⌜ Advances passwordAt (now (line .entry)) n (take (r .used) (now (piece .exit))) (now (line .exit)) (r .n) (stageIn (stage .fresh) (stage .rows) (now (table .entry))) (stageIn (r .fresh) (r .rows) (now (table .exit))) ⌝ }
 {
@@ -126,11 +114,8 @@ fn serve_pieces(
     piece: &mut [u8],
     out: &mut [u8],
 ) -> Progress
-    requires { ⌜ length (now line) ≡ 4096 ⌝ }
-    requires { ⌜ length (now table) ≡ 24576 ⌝ }
-    requires { ⌜ stage .rows ≤ 256 ⌝ }
+    requires { ⌜ Sized (now line) (now table) (now out) 0 (stage .rows) ⌝ }
     requires { ⌜ length (now piece) ≡ 65536 ⌝ }
-    requires { ⌜ length (now out) ≡ 114944 ⌝ }
     ensures { λ r. ⌜ (r .ok ≡ true → r .read ≡ 0) × ((r .n ≤ 4097) × (r .rows ≤ 256)) ⌝ }
     ensures { λ r. ⌜ Leaves passwordAt (stageIn (stage .fresh) (stage .rows) (now (table .entry))) (now (line .exit)) (r .n) (stageIn (r .fresh) (r .rows) (now (table .exit))) ⌝ }
 {
@@ -169,7 +154,7 @@ pub(crate) struct Done {
 
 // Serves all lines of standard input.
 pub(crate) fn serve_input(to: i32, table: &mut [u8], stage: Stage) -> Done
-    requires { ⌜ length (now table) ≡ 24576 ⌝ }
+    requires { ⌜ length (now table) ≡ tableBytes ⌝ }
     requires { ⌜ stage .rows ≤ 256 ⌝ }
     ensures { λ r. ⌜ r .rows ≤ 256 ⌝ }
     ensures { λ r. ⌜ ServesInput passwordAt (r .ok) (stageIn (stage .fresh) (stage .rows) (now (table .entry))) (stageIn (r .fresh) (r .rows) (now (table .exit))) ⌝ }
@@ -201,7 +186,7 @@ pub(crate) fn serve_input(to: i32, table: &mut [u8], stage: Stage) -> Done
 
 // Serves all lines of standard input on a table of the program's own, which the first line makes.
 pub(crate) fn serve_own_table(table: &mut [u8]) -> Done
-    requires { ⌜ length (now table) ≡ 24576 ⌝ }
+    requires { ⌜ length (now table) ≡ tableBytes ⌝ }
     ensures { λ r. ⌜ ServesInput passwordAt (r .ok) start (stageIn (r .fresh) (r .rows) (now (table .exit))) ⌝ }
 {
     let stage = Stage {

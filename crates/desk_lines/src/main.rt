@@ -3,9 +3,9 @@ mod file;
 mod input;
 
 use file::serve_argument;
-use input::TABLE;
 use input::serve_own_table;
 use libc::STDERR_FILENO;
+use script::sizes::TABLE;
 
 fn main() {
     let count = os::arg_count();

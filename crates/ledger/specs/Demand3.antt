@@ -4,17 +4,19 @@ use Prim.Native.Nat.{ℕ, _+_, _*_, _≤_, _<_}
 use mathlib.Core.Path.{_≡_}
 use mathlib.Core.Bool.{true, false, _&&_, cond}
 use mathlib.Core.List.{List, [], _∷_, _++_}
+use mathlib.Core.Option.{Option, none, some}
 use lib.Dec.{eqb}
 use lib.ListN.{length, take, drop, replicate}
 use Rattle.words.specs.Lists.{oneOf}
+use Rattle.window.specs.declared.Step.{Step}
+use Rattle.window.specs.declared.Offset.{Offset}
 use Rattle.window.specs.PasswordAt.{PasswordRule}
 use Rattle.row.specs.Row.{rowBytes}
 use Rattle.row.specs.Table.{isEmpty, hasSerial}
-use Rattle.token.specs.declared.answers.Content.{Content}
 use Rattle.token.specs.declared.answers.Answer.{Answer}
 use Rattle.token.specs.Codes.{numberOf}
 use Rattle.desk.specs.Requests.{DeskCall}
-use Rattle.desk.specs.Desk.{deskAfter, run}
+use Rattle.desk.specs.Desk.{deskAfter, run, checkedOf}
 use Rattle.desk.specs.Demand2.{Exactly}
 use Rattle.ledger.specs.Ledger.{names, ledger}
 
@@ -32,17 +34,15 @@ Demand3 =
 abbrev pub answersOf : PasswordRule → ℕ → List DeskCall → List Answer
 answersOf passwords rows calls = run passwords calls (replicate {A = ℕ} (rowBytes * rows) 0) .answers
 
-abbrev pub stepIn : Answer → List ℕ
-stepIn (Answer.Success call (Content.Checked step d)) = step .0 ∷ []
-stepIn (Answer.Success call Content.Plain) = []
-stepIn (Answer.Success call (Content.Told status)) = []
-stepIn (Answer.Refused refusal) = []
+abbrev pub stepIn : Option (Step × Offset) → List ℕ
+stepIn none = []
+stepIn (some checked) = checked .0 .0 ∷ []
 
 -- the steps in the checked successes of calls naming a token, in their order
 unfoldable pub acceptedSteps : ℕ → List DeskCall → List Answer → List ℕ
 acceptedSteps serial [] answers = []
 acceptedSteps serial (call ∷ calls) [] = []
-acceptedSteps serial (call ∷ calls) (answer ∷ answers) = cond (names call serial) (stepIn answer) [] ++ acceptedSteps serial calls answers
+acceptedSteps serial (call ∷ calls) (answer ∷ answers) = cond (names call serial) (stepIn (checkedOf answer)) [] ++ acceptedSteps serial calls answers
 
 abbrev pub AllAbove : ℕ → List ℕ → Type 0
 AllAbove a [] = Unit {0}
@@ -81,7 +81,7 @@ acceptanceCodes = 0x0001 ∷ 0x0002 ∷ 0x0101 ∷ 0x0103 ∷ 0x0105 ∷ 0x0108 
 abbrev pub CodesCarrySteps : Type 0
 CodesCarrySteps =
     (passwords : PasswordRule) (call : DeskCall) (s : List ℕ)
-    → Exactly (oneOf (numberOf (deskAfter passwords call s .answer)) acceptanceCodes ≡ true) ((step : ℕ) × (stepIn (deskAfter passwords call s .answer) ≡ step ∷ []))
+    → Exactly (oneOf (numberOf (deskAfter passwords call s .answer)) acceptanceCodes ≡ true) ((checked : Step × Offset) × (checkedOf (deskAfter passwords call s .answer) ≡ some checked))
 
 -- no answer to a call naming a token has one of these codes
 abbrev pub NoneAccepted : ℕ → List DeskCall → List Answer → Type 0

@@ -7,7 +7,9 @@ use mathlib.Core.Option.{Option, none, some}
 use lib.Dec.{eqb, leb, ltb}
 use lib.ListN.{length, replicate}
 use Rattle.words.specs.Lists.{oneOf}
+use Rattle.window.specs.declared.Size.{Size}
 use Rattle.window.specs.declared.Size.the-variants.{Small, Medium, Large}
+use Rattle.window.specs.declared.Step.{Step}
 use Rattle.window.specs.declared.Offset.{Offset}
 use Rattle.window.specs.declared.Track.{Track}
 use Rattle.window.specs.declared.Outcome.{Outcome}
@@ -17,14 +19,13 @@ use Rattle.window.specs.TokenCheck.{singleCheck, pairCheck}
 use Rattle.row.specs.declared.Row.{Row}
 use Rattle.row.specs.Row.{rowBytes, keyBytes, render}
 use Rattle.row.specs.Table.{zeroFilled}
-use Rattle.token.specs.declared.calls.Call.{Call}
 use Rattle.token.specs.declared.answers.Content.{Content}
 use Rattle.token.specs.declared.answers.Refusal.{Refusal}
 use Rattle.token.specs.declared.answers.Answer.{Answer}
 use Rattle.token.specs.Codes.{numberOf}
 use Rattle.desk.specs.declared.Particulars.{Particulars}
 use Rattle.desk.specs.Requests.{Request, DeskCall, clockOk, requestOk, loadOk}
-use Rattle.desk.specs.Desk.{Run, preceded}
+use Rattle.desk.specs.Desk.{Run, preceded, checkedOf}
 
 -- ---- the history, latest entry first
 
@@ -36,6 +37,11 @@ pub record Entry : Type 0 where
 abbrev pub names : DeskCall → ℕ → Bool
 names (DeskCall.load p key) serial = eqb (p .serial) serial
 names (DeskCall.named request other clock) serial = eqb other serial
+
+-- the entries that name a serial
+unfoldable pub entriesOf : ℕ → List Entry → List Entry
+entriesOf serial [] = []
+entriesOf serial (e ∷ history) = cond (names (e .call) serial) (e ∷ entriesOf serial history) (entriesOf serial history)
 
 -- ---- particulars: those of the load answered 0140; rows stand in the order of such loads
 
@@ -55,54 +61,41 @@ unfoldable pub loadOf : ℕ → List Loaded → Option Loaded
 loadOf serial [] = none
 loadOf serial (l ∷ ls) = cond (eqb (l .particulars .serial) serial) (some l) (loadOf serial ls)
 
--- ---- readings from the successes
+-- ---- next, d and last use: what a serial's checked successes say
 
--- one more than a checked success's step
-abbrev pub pastStep : Answer → ℕ
-pastStep (Answer.Success call (Content.Checked step d)) = step .0 + 1
-pastStep (Answer.Success call Content.Plain) = 0
-pastStep (Answer.Success call (Content.Told status)) = 0
-pastStep (Answer.Refused refusal) = 0
-
--- `next`: one more than the largest step in its successes, else 0
-unfoldable pub nextOf : ℕ → List Entry → ℕ
-nextOf serial [] = 0
-nextOf serial (e ∷ history) = cond (names (e .call) serial) (max (pastStep (e .answer)) (nextOf serial history)) (nextOf serial history)
-
--- what a checked success gives, else what there was before
-abbrev pub atChecked : {A : Type 0} → Answer → (Offset → A) → A → A
-atChecked (Answer.Success call (Content.Checked step d)) given before = given d
-atChecked (Answer.Success call Content.Plain) given before = before
-atChecked (Answer.Success call (Content.Told status)) given before = before
-atChecked (Answer.Refused refusal) given before = before
+pub record Marks : Type 0 where
+  pub next : ℕ
+  pub offset : Offset
+  pub used : ℕ
 
 abbrev pub clockOf : DeskCall → ℕ
 clockOf (DeskCall.load p key) = 0
 clockOf (DeskCall.named request serial clock) = clock
 
--- d and last use come from the latest checked success, else 0; d is held as d + 600
-unfoldable pub offsetOf : ℕ → List Entry → Offset
-offsetOf serial [] = record { 0 = farthest }
-offsetOf serial (e ∷ history) = cond (names (e .call) serial) (atChecked (e .answer) (λ d. d) (offsetOf serial history)) (offsetOf serial history)
+-- `next` is one more than the largest step; d and last use come from the latest of them
+abbrev pub marked : Option (Step × Offset) → ℕ → Marks → Marks
+marked none clock m = m
+marked (some checked) clock m = record { next = max (checked .0 .0 + 1) (m .next); offset = checked .1; used = clock }
 
-unfoldable pub usedOf : ℕ → List Entry → ℕ
-usedOf serial [] = 0
-usedOf serial (e ∷ history) = cond (names (e .call) serial) (atChecked (e .answer) (λ d. clockOf (e .call)) (usedOf serial history)) (usedOf serial history)
+-- by a serial's entries; with no such success they are 0, and d is held as d + 600
+unfoldable pub marks : List Entry → Marks
+marks [] = record { next = 0; offset = record { 0 = farthest }; used = 0 }
+marks (e ∷ older) = marked (checkedOf (e .answer)) (clockOf (e .call)) (marks older)
 
 -- ---- state, errors and `locked at`: they change with each entry that names the serial, oldest first
 
 pub record Reading : Type 0 where
   pub state : ℕ
   pub errors : ℕ
-  pub locked : ℕ
+  pub «locked_at» : ℕ
 
 abbrev pub atLoading : Reading
-atLoading = record { state = 1; errors = 0; locked = 0 }
+atLoading = record { state = 1; errors = 0; «locked_at» = 0 }
 
 -- a wait run out by a clock reading
-abbrev pub runOut : Particulars → ℕ → Reading → Reading
-runOut p clock r =
-    cond (eqb (r .state) 3 && (leb (r .locked) clock && leb (p .wait) (clock - r .locked))) (record { state = 2; errors = 0; locked = 0 }) r
+abbrev pub runOut : Loaded → ℕ → Reading → Reading
+runOut l clock r =
+    cond (eqb (r .state) 3 && (leb (r .«locked_at») clock && leb (l .particulars .wait) (clock - r .«locked_at»))) (record { state = 2; errors = 0; «locked_at» = 0 }) r
 
 -- the state that Part 5's table sets
 abbrev pub follows : Request → ℕ → ℕ
@@ -117,13 +110,18 @@ follows (Request.sync choice password following) state = state
 follows Request.void state = 6
 follows Request.query state = state
 
--- leaving state 3 zeroes `locked at`; a checked success sets errors 0
+-- a checked success sets errors 0
+abbrev pub errorsBy : Option (Step × Offset) → ℕ → ℕ
+errorsBy none errors = errors
+errorsBy (some checked) errors = 0
+
+-- leaving state 3 zeroes `locked at`
 abbrev pub succeeded : Request → Answer → Reading → Reading
 succeeded request answer r =
     record {
       state = follows request (r .state);
-      errors = atChecked answer (λ d. 0) (r .errors);
-      locked = cond (eqb (r .state) 3 && not (eqb (follows request (r .state)) 3)) 0 (r .locked);
+      errors = errorsBy (checkedOf answer) (r .errors);
+      «locked_at» = cond (eqb (r .state) 3 && not (eqb (follows request (r .state)) 3)) 0 (r .«locked_at»);
     }
 
 abbrev pub isLogin : Request → Bool
@@ -139,17 +137,17 @@ isLogin Request.void = false
 isLogin Request.query = false
 
 -- used or wrong adds 1, at most 255; a login that adds an error and is then at the limit locks
-abbrev pub erred : Particulars → Request → ℕ → Reading → Reading
-erred p request clock r =
-    cond (isLogin request && leb (p .limit) (min 255 (r .errors + 1)))
-    (record { state = 3; errors = min 255 (r .errors + 1); locked = clock })
-    (record { state = r .state; errors = min 255 (r .errors + 1); locked = r .locked })
+abbrev pub erred : Loaded → Request → ℕ → Reading → Reading
+erred l request clock r =
+    cond (isLogin request && leb (l .particulars .limit) (min 255 (r .errors + 1)))
+    (record { state = 3; errors = min 255 (r .errors + 1); «locked_at» = clock })
+    (record { state = r .state; errors = min 255 (r .errors + 1); «locked_at» = r .«locked_at» })
 
 -- used is 8004 or 8104, wrong 8002, 8102 or 8105; other refusals change nothing more
-abbrev pub answered : Particulars → Request → ℕ → Answer → Reading → Reading
-answered p request clock (Answer.Success call content) r = succeeded request (Answer.Success call content) r
-answered p request clock (Answer.Refused refusal) r =
-    cond (oneOf (numberOf (Answer.Refused refusal)) (0x8004 ∷ 0x8104 ∷ 0x8002 ∷ 0x8102 ∷ 0x8105 ∷ [])) (erred p request clock r) r
+abbrev pub answered : Loaded → Request → ℕ → Answer → Reading → Reading
+answered l request clock (Answer.Success number content) r = succeeded request (Answer.Success number content) r
+answered l request clock (Answer.Refused refusal) r =
+    cond (oneOf (numberOf (Answer.Refused refusal)) (0x8004 ∷ 0x8104 ∷ 0x8002 ∷ 0x8102 ∷ 0x8105 ∷ [])) (erred l request clock r) r
 
 abbrev pub isQuery : Request → Bool
 isQuery (Request.login password) = false
@@ -163,15 +161,15 @@ isQuery (Request.sync choice password following) = false
 isQuery Request.void = false
 isQuery Request.query = true
 
--- a query, a refused load or a call answered 9005 changes nothing; any other call first lets a wait run out
-abbrev pub entered : Particulars → DeskCall → Answer → Reading → Reading
-entered p (DeskCall.load q key) answer r = cond (eqb (numberOf answer) 0x0140) atLoading r
-entered p (DeskCall.named request serial clock) answer r =
-    cond (isQuery request || eqb (numberOf answer) 0x9005) r (answered p request clock answer (runOut p clock r))
+-- an entry, with the serial's older ones: a query, a refused load or a call answered 9005 changes nothing; any other call first lets a wait run out
+abbrev pub entered : PasswordRule → Loaded → List Entry → DeskCall → Answer → Reading → Reading
+entered passwords l older (DeskCall.load p key) answer r = cond (eqb (numberOf answer) 0x0140) atLoading r
+entered passwords l older (DeskCall.named request serial clock) answer r =
+    cond (isQuery request || eqb (numberOf answer) 0x9005) r (answered l request clock answer (runOut l clock r))
 
-unfoldable pub reading : Particulars → List Entry → Reading
-reading p [] = atLoading
-reading p (e ∷ history) = cond (names (e .call) (p .serial)) (entered p (e .call) (e .answer) (reading p history)) (reading p history)
+unfoldable pub reading : PasswordRule → Loaded → List Entry → Reading
+reading passwords l [] = atLoading
+reading passwords l (e ∷ older) = entered passwords l older (e .call) (e .answer) (reading passwords l older)
 
 -- ---- the answer to a call: the first line of "What a turned-down call says" that holds, else the success
 
@@ -186,65 +184,60 @@ needing states state answer =
 
 -- d = a - T for a time token; an event token keeps its d
 abbrev pub offsetWith : Track → ℕ → ℕ → Offset
-offsetWith k clock a = record { 0 = cond (eqb (k .rule .kind) timeToken) (farthest + a - clock / k .period) (k .offset .0) }
+offsetWith k clock a = record { 0 = cond (eqb (k .scheme .kind) timeToken) (farthest + a - clock / k .period) (k .offset .0) }
 
 -- a check's outcome: the success with step and d, used or wrong
-abbrev pub judgedBy : Call → Refusal → Refusal → Track → ℕ → Outcome → Answer
-judgedBy call used wrong k clock (Outcome.Accepted a) = Answer.Success call (Content.Checked a (offsetWith k clock (a .0)))
-judgedBy call used wrong k clock Outcome.Used = Answer.Refused used
-judgedBy call used wrong k clock Outcome.Wrong = Answer.Refused wrong
-
--- 8408 comes before the check
-abbrev pub unexpired : Particulars → ℕ → Answer → Answer
-unexpired p clock answer = cond (leb (p .expiry .0) clock) (Answer.Refused Refusal.Expired) answer
+abbrev pub judgedBy : ℕ → Refusal → Refusal → Track → ℕ → Outcome → Answer
+judgedBy success used wrong k clock (Outcome.Accepted a) = Answer.Success success (Content.Checked a (offsetWith k clock (a .0)))
+judgedBy success used wrong k clock Outcome.Used = Answer.Refused used
+judgedBy success used wrong k clock Outcome.Wrong = Answer.Refused wrong
 
 -- the numbers that a check reads
-abbrev pub trackOf : Particulars → List Entry → Track
-trackOf p history = record { rule = p .rule; period = p .period; next = record { 0 = nextOf (p .serial) history }; offset = offsetOf (p .serial) history }
+abbrev pub trackOf : Loaded → Marks → Track
+trackOf l m = record { scheme = l .particulars .scheme; period = l .particulars .period; next = record { 0 = m .next }; offset = m .offset }
 
 -- a request to a loaded token, whose reading r has a wait run out by the clock
-abbrev pub requested : PasswordRule → Loaded → Track → ℕ → Reading → ℕ → Request → Answer
-requested passwords l k used r clock (Request.login password) =
-    needing (2 ∷ []) (r .state)
-    (unexpired (l .particulars) clock
-    (judgedBy Call.Login Refusal.UsedAtLogin Refusal.WrongAtLogin k clock (singleCheck k clock Small (hasBy passwords (k .rule) (l .key) [] password))))
-requested passwords l k used r clock (Request.challengeLogin challenge password) =
-    needing (2 ∷ []) (r .state)
-    (unexpired (l .particulars) clock
-    (judgedBy Call.ChallengeLogin Refusal.UsedAtLogin Refusal.WrongAtLogin k clock
-    (singleCheck k clock Small (hasBy passwords (k .rule) (l .key) challenge password))))
-requested passwords l k used r clock (Request.activate password following) =
-    needing (1 ∷ []) (r .state)
-    (unexpired (l .particulars) clock
-    (judgedBy Call.Activate Refusal.Used Refusal.Wrong k clock
-    (pairCheck k clock Large (hasBy passwords (k .rule) (l .key) [] password) (hasBy passwords (k .rule) (l .key) [] following))))
-requested passwords l k used r clock Request.lock = needing (2 ∷ []) (r .state) (Answer.Success Call.Lock Content.Plain)
-requested passwords l k used r clock (Request.unlock password) =
-    needing (3 ∷ 4 ∷ []) (r .state)
-    (unexpired (l .particulars) clock
-    (judgedBy Call.Unlock Refusal.Used Refusal.Wrong k clock (singleCheck k clock Small (hasBy passwords (k .rule) (l .key) [] password))))
-requested passwords l k used r clock Request.suspend = needing (2 ∷ 3 ∷ 4 ∷ []) (r .state) (Answer.Success Call.Suspend Content.Plain)
-requested passwords l k used r clock (Request.resume password) =
-    needing (5 ∷ []) (r .state)
-    (unexpired (l .particulars) clock
-    (judgedBy Call.Resume Refusal.Used Refusal.Wrong k clock (singleCheck k clock Small (hasBy passwords (k .rule) (l .key) [] password))))
-requested passwords l k used r clock (Request.sync choice password following) =
-    needing (2 ∷ 3 ∷ 4 ∷ []) (r .state)
-    (unexpired (l .particulars) clock
-    (judgedBy (cond (eqb choice 1) Call.SyncMedium Call.SyncLarge) Refusal.Used Refusal.WrongAtSync k clock
-    (pairCheck k clock (cond (eqb choice 1) Medium Large) (hasBy passwords (k .rule) (l .key) [] password) (hasBy passwords (k .rule) (l .key) [] following))))
-requested passwords l k used r clock Request.void = needing (1 ∷ 2 ∷ 3 ∷ 4 ∷ 5 ∷ []) (r .state) (Answer.Success Call.Void Content.Plain)
-requested passwords l k used r clock Request.query =
-    Answer.Success Call.Query (Content.Told (record { state = r .state; errors = r .errors; used = record { 0 = used } }))
+module _ (passwords : PasswordRule) (l : Loaded) (m : Marks) (r : Reading) (clock : ℕ) where
+  -- Part 3's checks; a pair has no Q
+  abbrev pub single : Size → List ℕ → List ℕ → Outcome
+  single size challenge password = singleCheck (trackOf l m) clock size (hasBy passwords (l .particulars .scheme) (l .key) challenge password)
+
+  abbrev pub pair : Size → List ℕ → List ℕ → Outcome
+  pair size password following =
+      pairCheck (trackOf l m) clock size (hasBy passwords (l .particulars .scheme) (l .key) [] password) (hasBy passwords (l .particulars .scheme) (l .key) [] following)
+
+  -- 8408 comes before the check
+  abbrev pub withCheck : List ℕ → ℕ → Refusal → Refusal → Outcome → Answer
+  withCheck states success used wrong outcome =
+      needing states (r .state) (cond (leb (l .particulars .expiry .0) clock) (Answer.Refused Refusal.Expired) (judgedBy success used wrong (trackOf l m) clock outcome))
+
+  abbrev pub withoutCheck : List ℕ → ℕ → Answer
+  withoutCheck states success = needing states (r .state) (Answer.Success success Content.Plain)
+
+  -- Part 5's table: the needed states, the success, what used and wrong are called, the check
+  abbrev pub requested : Request → Answer
+  requested (Request.login password) = withCheck (2 ∷ []) 0x0001 Refusal.UsedAtLogin Refusal.WrongAtLogin (single Small [] password)
+  requested (Request.challengeLogin challenge password) = withCheck (2 ∷ []) 0x0002 Refusal.UsedAtLogin Refusal.WrongAtLogin (single Small challenge password)
+  requested (Request.activate password following) = withCheck (1 ∷ []) 0x0101 Refusal.Used Refusal.Wrong (pair Large password following)
+  requested Request.lock = withoutCheck (2 ∷ []) 0x0102
+  requested (Request.unlock password) = withCheck (3 ∷ 4 ∷ []) 0x0103 Refusal.Used Refusal.Wrong (single Small [] password)
+  requested Request.suspend = withoutCheck (2 ∷ 3 ∷ 4 ∷ []) 0x0104
+  requested (Request.resume password) = withCheck (5 ∷ []) 0x0105 Refusal.Used Refusal.Wrong (single Small [] password)
+  requested (Request.sync choice password following) =
+      withCheck (2 ∷ 3 ∷ 4 ∷ []) 0x0108 Refusal.Used Refusal.WrongAtSync (pair (cond (eqb choice 1) Medium Large) password following)
+  requested Request.void = withoutCheck (1 ∷ 2 ∷ 3 ∷ 4 ∷ 5 ∷ []) 0x010a
+  requested Request.query = Answer.Success 0x010b (Content.Queried (record { state = r .state; errors = r .errors; «last_use» = record { 0 = m .used } }))
+
+abbrev pub requestedBy : PasswordRule → Loaded → List Entry → ℕ → Request → Answer
+requestedBy passwords l entries clock request = requested passwords l (marks entries) (runOut l clock (reading passwords l entries)) clock request
 
 abbrev pub requestedOf : PasswordRule → List Entry → ℕ → Request → Option Loaded → Answer
 requestedOf passwords history clock request none = Answer.Refused Refusal.Unknown
-requestedOf passwords history clock request (some l) =
-    requested passwords l (trackOf (l .particulars) history) (usedOf (l .particulars .serial) history) (runOut (l .particulars) clock (reading (l .particulars) history)) clock request
+requestedOf passwords history clock request (some l) = requestedBy passwords l (entriesOf (l .particulars .serial) history) clock request
 
 abbrev pub loadedOf : ℕ → List Loaded → Option Loaded → Answer
 loadedOf rows ls (some l) = Answer.Refused Refusal.AlreadyLoaded
-loadedOf rows ls none = cond (ltb (length ls) rows) (Answer.Success Call.Load Content.Plain) (Answer.Refused Refusal.TableFull)
+loadedOf rows ls none = cond (ltb (length ls) rows) (Answer.Success 0x0140 Content.Plain) (Answer.Refused Refusal.TableFull)
 
 unfoldable pub answerTo : PasswordRule → ℕ → List Entry → DeskCall → Answer
 answerTo passwords rows history (DeskCall.load p key) =
@@ -254,37 +247,40 @@ answerTo passwords rows history (DeskCall.named request serial clock) =
 
 -- ---- the table: the readings in Part 4's layout
 
-unfoldable pub rowOf : Loaded → List Entry → Row
-rowOf l history =
+unfoldable pub rowOf : Loaded → Reading → Marks → Row
+rowOf l r m =
     record {
-      state = reading (l .particulars) history .state;
-      track = trackOf (l .particulars) history;
+      state = r .state;
+      track = trackOf l m;
       limit = l .particulars .limit;
-      errors = reading (l .particulars) history .errors;
-      length = length (l .key);
+      errors = r .errors;
+      «key_length» = length (l .key);
       serial = l .particulars .serial;
       wait = l .particulars .wait;
       expiry = l .particulars .expiry;
-      locked = record { 0 = reading (l .particulars) history .locked };
-      used = record { 0 = usedOf (l .particulars .serial) history };
+      «locked_at» = record { 0 = r .«locked_at» };
+      «last_use» = record { 0 = m .used };
     }
 
 -- a void row's key is zero
-unfoldable pub keyOf : Loaded → List Entry → List ℕ
-keyOf l history = cond (eqb (reading (l .particulars) history .state) 6) (replicate keyBytes 0) (zeroFilled (l .key))
+unfoldable pub keyOf : Loaded → Reading → List ℕ
+keyOf l r = cond (eqb (r .state) 6) (replicate keyBytes 0) (zeroFilled (l .key))
 
-unfoldable pub rowsOf : List Loaded → List Entry → List ℕ
-rowsOf [] history = []
-rowsOf (l ∷ ls) history = render (rowOf l history) (keyOf l history) ++ rowsOf ls history
+abbrev pub renderBy : PasswordRule → Loaded → List Entry → List ℕ
+renderBy passwords l entries = render (rowOf l (reading passwords l entries) (marks entries)) (keyOf l (reading passwords l entries))
+
+unfoldable pub rowsOf : PasswordRule → List Loaded → List Entry → List ℕ
+rowsOf passwords [] history = []
+rowsOf passwords (l ∷ ls) history = renderBy passwords l (entriesOf (l .particulars .serial) history) ++ rowsOf passwords ls history
 
 -- rows not loaded are all zero
-unfoldable pub tableOf : ℕ → List Entry → List ℕ
-tableOf rows history = rowsOf (loads history) history ++ replicate (rowBytes * (rows - length (loads history))) 0
+unfoldable pub tableOf : PasswordRule → ℕ → List Entry → List ℕ
+tableOf passwords rows history = rowsOf passwords (loads history) history ++ replicate (rowBytes * (rows - length (loads history))) 0
 
 -- ---- a list of calls
 
 unfoldable pub ledgerFrom : PasswordRule → ℕ → List Entry → List DeskCall → Run
-ledgerFrom passwords rows history [] = record { answers = []; table = tableOf rows history }
+ledgerFrom passwords rows history [] = record { answers = []; table = tableOf passwords rows history }
 ledgerFrom passwords rows history (call ∷ calls) =
     preceded (answerTo passwords rows history call)
     (ledgerFrom passwords rows (record { call = call; answer = answerTo passwords rows history call } ∷ history) calls)

@@ -4,21 +4,20 @@ pub mod Demand3
 pub mod Demand3Laws
 -- the desk on tokens in place of bytes
 pub mod Tokens
-pub mod Ranges
+pub mod AcceptedLaws
 pub mod RangeLaws
-pub mod ServedLaws
-pub mod SaneLaws
+pub mod DecidedLaws
+pub mod ServiceableLaws
 -- the table's bytes and the tokens
 pub mod StandingLaws
-pub mod RequestAtLaws
 pub mod RenderedLaws
 pub mod BytesStep
 pub mod OtherRows
 pub mod CodesLaws
 -- the tokens and the history
-pub mod Described
-pub mod Entering
-pub mod FreshLaws
+pub mod HistoryTokens
+pub mod EntryRow
+pub mod LineLaws
 pub mod OneTokenLaws
 pub mod RequestLaws
 pub mod TokenLaws

@@ -4,14 +4,13 @@ use mathlib.Core.Path.{_≡_, refl, sym}
 use mathlib.Core.Bool.{false}
 use mathlib.Core.List.{List, [], _∷_, _++_, append-nil}
 use mathlib.Core.Option.{none, some}
-use native.Mathlib.Omega.{arith}
 use borrow.Author.Tests.{eqb-true, eqb-false, ne-eqb}
 use lib.Dec.{eqb}
-use Rattle.words.specs.ListsLaws.{by-test}
+use Rattle.words.specs.BoolLaws.{by-test, impossible}
 use Rattle.token.specs.declared.answers.Answer.{Answer}
 use Rattle.desk.specs.Requests.{Request, DeskCall}
 use Rattle.ledger.specs.Ledger.{Entry, Loaded, loads, loadOf}
-use Rattle.ledger.specs.Described.{withEntry, Distinct}
+use Rattle.ledger.specs.HistoryTokens.{withEntry, Distinct}
 
 pub flipped : (a b : ℕ) → eqb a b ≡ false → eqb b a ≡ false
 flipped a b f = ne-eqb b a (λ e. eqb-false a b f (sym e))
@@ -21,7 +20,7 @@ module _ (serial : ℕ) (l : Loaded) (ls : List Loaded) (missing : loadOf serial
   unfolding loadOf
   first-differs =
       by-test (eqb (l .particulars .serial) serial)
-      (λ t. let n : some l ≡ none = rw t at missing in let z : _≡_ {A = ℕ} 0 1 = cc in absurd (omega arith))
+      (λ t. let n : some l ≡ none = rw t at missing in impossible (cc))
       (λ f. f)
 
   pub rest-missing : loadOf serial ls ≡ none
@@ -31,7 +30,7 @@ module _ (serial : ℕ) (l : Loaded) (ls : List Loaded) (missing : loadOf serial
 module _ (serial : ℕ) (l : Loaded) where
   pub found-serial : (ls : List Loaded) → loadOf serial ls ≡ some l → l .particulars .serial ≡ serial
   unfolding loadOf
-  found-serial [] e = let z : _≡_ {A = ℕ} 0 1 = cc in absurd (omega arith)
+  found-serial [] e = impossible (cc)
   found-serial (k ∷ ls) e =
       by-test (eqb (k .particulars .serial) serial)
       (λ t. let same : some k ≡ some l = rw t at e in let s = eqb-true (k .particulars .serial) serial t in cc)
@@ -39,7 +38,7 @@ module _ (serial : ℕ) (l : Loaded) where
 
   pub found-behind : (ls ms : List Loaded) → loadOf serial ls ≡ some l → loadOf serial (ls ++ ms) ≡ some l
   unfolding loadOf
-  found-behind [] ms e = let z : _≡_ {A = ℕ} 0 1 = cc in absurd (omega arith)
+  found-behind [] ms e = impossible (cc)
   found-behind (k ∷ ls) ms e =
       by-test (eqb (k .particulars .serial) serial)
       (λ t. rw t (rw t at e))

@@ -1,108 +1,97 @@
--- Every request does with one token what the ledger machine enters: the same answer, and the row of the readings after it.
-use Prim.Native.Nat.{ℕ, _≤_, _<_}
-use mathlib.Core.Path.{_≡_, refl}
-use mathlib.Core.Bool.{Bool, true, false, cond}
-use mathlib.Core.List.{List, [], _∷_}
-use lib.Dec.{eqb}
-use lib.ListN.{length, take}
-use Rattle.window.specs.declared.Size.{Size}
-use Rattle.window.specs.declared.Size.the-variants.{Small, Medium, Large}
-use Rattle.window.specs.declared.Offset.{Offset}
-use Rattle.window.specs.declared.Track.{Track}
-use Rattle.window.specs.PasswordAt.{PasswordRule, hasBy}
-use Rattle.window.specs.TokenCheck.{singleCheck, pairCheck}
-use Rattle.token.specs.declared.calls.Call.{Call}
-use Rattle.token.specs.declared.calls.Checking.{Checking}
-use Rattle.token.specs.declared.answers.Content.{Content}
-use Rattle.token.specs.declared.answers.Refusal.{Refusal}
+-- Every request does with one token what the ledger machine enters: the same answer, and the token with the readings after it.
+use Prim.Native.Nat.{ℕ, _-_, _≤_, _<_}
+use mathlib.Core.Path.{_≡_, refl, _∙_}
+use mathlib.Core.Bool.{true, false, _&&_}
+use mathlib.Core.List.{List}
+use native.Mathlib.Omega.{arith}
+use borrow.Author.Tests.{eqb-true}
+use lib.Dec.{eqb, leb}
+use lib.ListN.{length, take, replicate}
+use lib.Seq.{take-at}
+use Rattle.words.specs.BoolLaws.{by-test, and-left}
+use Rattle.window.specs.declared.Outcome.{Outcome}
+use Rattle.window.specs.declared.asked.Asked.{Asked}
+use Rattle.window.specs.PasswordAt.{PasswordRule}
+use Rattle.row.specs.Row.{keyBytes}
 use Rattle.token.specs.declared.answers.Answer.{Answer}
-use Rattle.token.specs.Calls.{checkingOf, usedRefusal, wrongRefusal}
-use Rattle.token.specs.Serving.{serving, served, querying}
-use Rattle.desk.specs.Requests.{Request}
-use Rattle.ledger.specs.Ledger.{Loaded, Reading, runOut, needing, judgedBy, unexpired, requested}
-use Rattle.ledger.specs.Tokens.{requestedToken}
-use Rattle.ledger.specs.FreshLaws.{single-fresh, pair-fresh}
-use Rattle.ledger.specs.Entering.{rowWith, Agrees}
-use Rattle.ledger.specs.OneTokenLaws.{Makes, alive, errs, waited-reads, none-larger, needing-agrees, plain-agrees, check-agrees}
+use Rattle.token.specs.declared.lines.Fails.{Fails}
+use Rattle.token.specs.declared.lines.Way.the-variants.{Changes, Checks}
+use Rattle.token.specs.Deciding.{deciding, decided}
+use Rattle.desk.specs.Requests.{Request, DeskCall, requestOk}
+use Rattle.desk.specs.Desk.{checkedOf}
+use Rattle.ledger.specs.Ledger.{Entry, Loaded, Marks, Reading, marked, runOut, isQuery, entered, withCheck, withoutCheck, requested, rowOf, keyOf}
+use Rattle.ledger.specs.Tokens.{Token, decidedOn, kept}
+use Rattle.ledger.specs.HistoryTokens.{tokenWith}
+use Rattle.ledger.specs.EntryRow.{Agrees}
+use Rattle.ledger.specs.LineLaws.{Listed, alive, Failing, Checked, by-line}
+use Rattle.ledger.specs.OneTokenLaws.{waited-reads, needing-agrees, changing-agrees, check-agrees}
 
-module _ (passwords : PasswordRule) (l : Loaded) (x y : Reading) (next : ℕ) (d : Offset) (used clock : ℕ) (key : List ℕ)
-    (ran : runOut (l .particulars) clock x ≡ y) (low : 0 < y .state) (high : y .state ≤ 6) (secret : eqb (y .state) 6 ≡ false → key ≡ l .key) where
-  abbrev track : Track
-  track = rowWith l y next d used .track
+-- ---- a wait run out
 
-  abbrev has : List ℕ → List ℕ → ℕ → Bool
-  has challenge presented s = hasBy passwords (l .particulars .rule) (l .key) challenge presented s
+module _ (l : Loaded) (clock : ℕ) (x : Reading) where
+  -- only from state 3, and then to state 2
+  run-out-either : (P : ℕ → Type 0) → (x .state ≡ 3 → P 2) → P (x .state) → P (runOut l clock x .state)
+  run-out-either P q r =
+      let late = leb (x .«locked_at») clock && leb (l .particulars .wait) (clock - x .«locked_at») in
+      by-test (eqb (x .state) 3 && late) (λ t. rw t (q (eqb-true (x .state) 3 (and-left _ _ t)))) (λ t. rw t r)
 
-  module _ (request : Request) (call : Call) (needs : List ℕ) (makes : Makes request call needs) (challenge presented following : List ℕ) where
-    abbrev Alike : Answer → Type 0
-    Alike a = Agrees l x y next d used clock request (served passwords call (rowWith l x next d used) key clock challenge presented following) a
+  pub run-out-void : eqb (x .state) 6 ≡ eqb (runOut l clock x .state) 6
+  run-out-void = run-out-either (λ s. eqb (x .state) 6 ≡ eqb s 6) (λ e. rw e) refl
 
-    unchecked-agrees : checkingOf call ≡ Checking.Nothing → Alike (needing needs (y .state) (Answer.Success call Content.Plain))
-    unfolding served serving
-    unchecked-agrees e =
-        rw (waited-reads l x next d used clock, ran, e)
-        (needing-agrees l x y next d used clock request call needs makes low high
-        (λ made. plain-agrees l x y next d used clock request call needs makes high made))
+  run-out-low : 0 < x .state → 0 < runOut l clock x .state
+  run-out-low h = run-out-either (λ s. 0 < s) (λ e. omega arith) h
 
-    module _ (u : errs (usedRefusal call) ≡ true) (w : errs (wrongRefusal call) ≡ true) (size : Size) where
-      single-agrees : checkingOf call ≡ Checking.Single size
-          → Alike (needing needs (y .state) (unexpired (l .particulars) clock
-          (judgedBy call (usedRefusal call) (wrongRefusal call) track clock (singleCheck track clock size (has challenge presented)))))
-      unfolding served serving
-      single-agrees e =
-          rw (waited-reads l x next d used clock, ran, e)
-          (needing-agrees l x y next d used clock request call needs makes low high
-          (λ made. rw (secret (alive request call needs makes (y .state) high made))
-          (check-agrees l x y next d used clock request call needs makes high made (singleCheck track clock size (has challenge presented))
-          (single-fresh track clock size (has challenge presented)) u w)))
+  run-out-high : x .state ≤ 6 → runOut l clock x .state ≤ 6
+  run-out-high h = run-out-either (λ s. s ≤ 6) (λ e. omega arith) h
 
-      pair-agrees : checkingOf call ≡ Checking.Pair size
-          → Alike (needing needs (y .state) (unexpired (l .particulars) clock
-          (judgedBy call (usedRefusal call) (wrongRefusal call) track clock (pairCheck track clock size (has [] presented) (has [] following)))))
-      unfolding served serving
-      pair-agrees e =
-          rw (waited-reads l x next d used clock, ran, e)
-          (needing-agrees l x y next d used clock request call needs makes low high
-          (λ made. rw (secret (alive request call needs makes (y .state) high made))
-          (check-agrees l x y next d used clock request call needs makes high made (pairCheck track clock size (has [] presented) (has [] following))
-          (pair-fresh track clock size (has [] presented) (has [] following)) u w)))
+-- ---- a request to the token of a load with its readings
 
-  -- a sync names its window's size
-  sync-agrees : (choice : ℕ) (presented following : List ℕ) (b : Bool)
-      → Agrees l x y next d used clock (Request.sync choice presented following)
-      (served passwords (cond b Call.SyncMedium Call.SyncLarge) (rowWith l x next d used) key clock [] presented following)
-      (needing (2 ∷ 3 ∷ 4 ∷ []) (y .state) (unexpired (l .particulars) clock
-      (judgedBy (cond b Call.SyncMedium Call.SyncLarge) Refusal.Used Refusal.WrongAtSync track clock
-      (pairCheck track clock (cond b Medium Large) (has [] presented) (has [] following)))))
-  sync-agrees choice presented following true =
-      pair-agrees (Request.sync choice presented following) Call.SyncMedium (2 ∷ 3 ∷ 4 ∷ []) (search refl) [] presented following refl refl Medium refl
-  sync-agrees choice presented following false =
-      pair-agrees (Request.sync choice presented following) Call.SyncLarge (2 ∷ 3 ∷ 4 ∷ []) (search refl) [] presented following refl refl Large refl
+module _ (passwords : PasswordRule) (l : Loaded) (older : List Entry) (x : Reading) (m : Marks) (serial clock : ℕ) (low : 0 < x .state) (high : x .state ≤ 6) where
+  abbrev y : Reading
+  y = runOut l clock x
 
-  query-agrees : eqb (x .state) 6 ≡ eqb (y .state) 6
-      → Agrees l x y next d used clock Request.query (record { answer = querying (rowWith l x next d used) clock; row = rowWith l x next d used })
-      (Answer.Success Call.Query (Content.Told (record { state = y .state; errors = y .errors; used = record { 0 = used } })))
-  unfolding querying
-  query-agrees e = record { answer = rw (waited-reads l x next d used clock, ran); row = rw (none-larger next); zeroed = e }
+  abbrev t : Token
+  t = tokenWith l x m
 
-  pub request-agrees : (zeros : List ℕ) → take (length (l .key)) zeros ≡ key → eqb (x .state) 6 ≡ eqb (y .state) 6 → (request : Request)
-      → Agrees l x y next d used clock request (requestedToken passwords request clock (record { row = rowWith l x next d used; key = zeros }))
-      (requested passwords l track used y clock request)
-  request-agrees zeros cut e (Request.login presented) =
-      rw cut (single-agrees (Request.login presented) Call.Login (2 ∷ []) (search refl) [] presented [] refl refl Small refl)
-  request-agrees zeros cut e (Request.challengeLogin challenge presented) =
-      rw cut (single-agrees (Request.challengeLogin challenge presented) Call.ChallengeLogin (2 ∷ []) (search refl) challenge presented [] refl refl Small refl)
-  request-agrees zeros cut e (Request.activate presented following) =
-      rw cut (pair-agrees (Request.activate presented following) Call.Activate (1 ∷ []) (search refl) [] presented following refl refl Large refl)
-  request-agrees zeros cut e Request.lock =
-      rw cut (unchecked-agrees Request.lock Call.Lock (2 ∷ []) (search refl) [] [] [] refl)
-  request-agrees zeros cut e (Request.unlock presented) =
-      rw cut (single-agrees (Request.unlock presented) Call.Unlock (3 ∷ 4 ∷ []) (search refl) [] presented [] refl refl Small refl)
-  request-agrees zeros cut e Request.suspend =
-      rw cut (unchecked-agrees Request.suspend Call.Suspend (2 ∷ 3 ∷ 4 ∷ []) (search refl) [] [] [] refl)
-  request-agrees zeros cut e (Request.resume presented) =
-      rw cut (single-agrees (Request.resume presented) Call.Resume (5 ∷ []) (search refl) [] presented [] refl refl Small refl)
-  request-agrees zeros cut e (Request.sync choice presented following) = rw cut (sync-agrees choice presented following (eqb choice 1))
-  request-agrees zeros cut e Request.void =
-      rw cut (unchecked-agrees Request.void Call.Void (1 ∷ 2 ∷ 3 ∷ 4 ∷ 5 ∷ []) (search refl) [] [] [] refl)
-  request-agrees zeros cut e Request.query = query-agrees e
+  -- what the request does, and what the machine enters
+  pub record Enters (request : Request) (a : Answer) : Type 0 where
+    pub answer : decidedOn passwords request clock t .answer ≡ a
+    pub token : kept t (decidedOn passwords request clock t .left) ≡ tokenWith l (entered passwords l older (DeskCall.named request serial clock) a x) (marked (checkedOf a) clock m)
+
+  keyed : t .key ≡ keyOf l y
+  unfolding keyOf
+  keyed = rw (run-out-void l clock x)
+
+  secret : eqb (y .state) 6 ≡ false → take (rowOf l x m .«key_length») (t .key) ≡ l .key
+  unfolding keyOf rowOf
+  secret f = rw (run-out-void l clock x ∙ f) (take-at (l .key) (replicate (keyBytes - length (l .key)) 0) (length (l .key)) refl)
+
+  agreed : {request : Request} {a : Answer} → isQuery request ≡ false → Agrees l y m clock request t (decidedOn passwords request clock t) a → Enters request a
+  agreed asked agrees = record { answer = agrees .answer; token = rw (asked, agrees .numbered) (agrees .token) }
+
+  changes-enters : (request : Request) (states : List ℕ) (success : ℕ) → Listed request states success Changes → requestOk request ≡ true
+      → Enters request (withoutCheck passwords l m y clock states success)
+  unfolding decided deciding rowOf
+  changes-enters request states success listed ok =
+      let upper = run-out-high l clock x high in
+      agreed (listed .asked)
+      (rw (waited-reads l x m clock, listed .does)
+      (needing-agrees l y m clock t keyed request listed upper (run-out-low l clock x low)
+      (λ made. changing-agrees l y m clock t keyed request listed upper made)))
+
+  checks-enters : (request : Request) (states : List ℕ) (success : ℕ) (f : Fails) (asked : Asked) (o : Outcome) → Listed request states success (Checks asked f) → Failing request f
+      → Checked passwords l m y clock request asked o → requestOk request ≡ true → Enters request (withCheck passwords l m y clock states success (f .used) (f .wrong) o)
+  unfolding decided deciding rowOf
+  checks-enters request states success f asked o listed failing checked ok =
+      let upper = run-out-high l clock x high in
+      agreed (listed .asked)
+      (rw (waited-reads l x m clock, listed .does)
+      (needing-agrees l y m clock t keyed request listed upper (run-out-low l clock x low)
+      (λ made. rw (secret (alive listed (y .state) upper made), checked .same ok) (check-agrees l y m clock t keyed request listed upper made f failing o (checked .acceptable)))))
+
+  query-enters : requestOk Request.query ≡ true → Enters Request.query (requested passwords l m y clock Request.query)
+  unfolding decided deciding rowOf
+  query-enters ok = record { answer = rw (waited-reads l x m clock); token = refl }
+
+  pub request-enters : (request : Request) → requestOk request ≡ true → Enters request (requested passwords l m y clock request)
+  request-enters = by-line passwords l m y clock (λ request a. requestOk request ≡ true → Enters request a) checks-enters changes-enters query-enters

@@ -8,7 +8,7 @@ use borrow.Author.Tests.{ltb-true, ltb-false, eqb-true}
 use lib.Dec.{ltb, eqb}
 use lib.ListN.{length, take, drop, length-append}
 use lib.Seq.{length-take-le, take-at}
-use Rattle.words.specs.ListsLaws.{by-test}
+use Rattle.words.specs.BoolLaws.{by-test, clash}
 use Rattle.words.specs.PutLaws.{put-part}
 use Rattle.lines.specs.Lines.{Held, Put}
 
@@ -73,10 +73,7 @@ module _ (line : List ℕ) (n : ℕ) (part : List ℕ) (p : List ℕ) (held : He
 
 -- ---- the end of the input
 
-pub clash : {X : Type 0} {ok : Bool} → ok ≡ false → ok ≡ true → X
-clash f t = let z : false ≡ true = sym f ∙ t in let y : _≡_ {A = ℕ} 0 1 = cc in absurd (omega arith)
-
 -- reading stopped, and nothing had failed
 pub input-over : (ok : Bool) (read : ℕ) → not ok || eqb read 0 ≡ true → ok ≡ true → read ≡ 0
 input-over true read e t = eqb-true read 0 e
-input-over false read e t = clash refl t
+input-over false read e t = clash t refl

@@ -1,30 +1,27 @@
 -- Laws of the SM4 way.
 use Prim.Native.Nat.{ℕ, zero, suc, _+_, _-_, _*_, _/_, _%_, _^_, _≤_, _<_, max}
-use mathlib.Core.Bool.{Bool, true, false, cond}
+use mathlib.Core.Bool.{cond}
 use mathlib.Core.Path.{_≡_, refl, sym, ap, _∙_}
 use mathlib.Core.List.{List, _++_, append-assoc}
 use native.Mathlib.Nat.{mod-add-mod, not-suc-le-zero, zero-add}
 use native.Mathlib.Omega.{arith}
-use borrow.Author.Tests.{ltb-true, ltb-false, ne-eqb}
-use lib.Dec.{ltb, eqb}
+use borrow.Author.Tests.{ltb-true, ltb-false}
+use lib.Dec.{ltb}
 use lib.ListN.{length, take, drop, replicate, length-append, length-drop, length-replicate, replicate-append-replicate}
 use lib.Seq.{length-take-le, drop-append-le, take-append-le}
-use Rattle.words.specs.ListsLaws.{drop-zeros, by-test}
+use Rattle.words.specs.ListsLaws.{drop-zeros}
+use Rattle.words.specs.BoolLaws.{by-test}
 use Rattle.words.specs.Bytes.{beAt, beBytes, put}
 use Rattle.words.specs.BytesLaws.{length-beBytes, beAt-split, beBytes-split, beBytes-mod}
 use Rattle.sm4.specs.Sm4.{wordsOf, encryptWith, reversed, roundKeys, sm4Of, keysAnswer, encryptWordsAnswer, firstAnswer}
 use Rattle.sm4.specs.Sm4Laws.{length-roundKeys}
-use Rattle.sm4.specs.ReturnLaws.{output-words}
+use Rattle.sm4.specs.EncryptLaws.{output-words}
 use Rattle.sm4.specs.declared.chaining.CipherWords.{CipherWords}
 use Rattle.sm4.specs.declared.round.Quad.{Quad}
 use Rattle.sm4.specs.declared.chaining.First.{First}
 use Rattle.sm4.specs.declared.schedule.Keys.{Keys}
-use Rattle.otp.specs.Password.{blockAt, blockSum, outputOf, chained, filled, toBlocks, wordSum, cut, algorithmSm4}
-
--- the outputs under round keys
-unfoldable pub chain : List ℕ → List ℕ → ℕ → List ℕ
-chain keys s zero = encryptWith keys (blockAt s 0)
-chain keys s (suc i) = encryptWith keys (blockSum (chain keys s i) (blockAt s (suc i)))
+use Rattle.otp.specs.Password.{blockAt, blockSum, outputOf, chained, filled, toBlocks, wordSum, cut}
+use Rattle.otp.specs.Chain.{prepared, chain, wordsNumber, wordsSum}
 
 -- ---- the sum of two blocks, by halves
 
@@ -55,13 +52,6 @@ bytes-words high low h l =
     let laid : beBytes 8 high ++ beBytes 8 low ≡ reversed state = rw (eight high, eight low) (simp append-assoc) in
     rw laid (sym (output-words state (omega arith) (omega arith) (omega arith) (omega arith)))
 
-abbrev number : Quad → ℕ
-number q = (q .a * 2 ^ 32 + q .b) * 2 ^ 64 + (q .c * 2 ^ 32 + q .d)
-
--- the words of the sum of two blocks, from theirs
-abbrev pub wordsSum : Quad → Quad → Quad
-wordsSum p q = wordsOf (beBytes 16 ((number p + number q) % 2 ^ 128))
-
 pub sum-of-halves : (p q : Quad) {ah al bh bl ls h hs carry : ℕ} → ah ≡ p .a * 2 ^ 32 + p .b → al ≡ p .c * 2 ^ 32 + p .d → bh ≡ q .a * 2 ^ 32 + q .b → bl ≡ q .c * 2 ^ 32 + q .d
     → al < 2 ^ 64 → bl < 2 ^ 64
     → ls ≡ (al + bl) % 2 ^ 64 → h ≡ (ah + bh) % 2 ^ 64 → carry ≡ cond (ltb ls al) 1 0 → hs ≡ (h + carry) % 2 ^ 64
@@ -74,7 +64,7 @@ sum-of-halves p q {ah} {al} {bh} {bl} {ls} {h} {hs} {carry} ea el eb em la lb l 
     let bytes : beBytes 16 (sum % 2 ^ 128) ≡ beBytes 8 hs ++ beBytes 8 ls = halves-bytes sum ∙ rw (high, low) in
     rw (← ea, ← el, ← eb, ← em, bytes) (sym (bytes-words hs ls (omega arith) (omega arith)))
 
-number-of : (s : List ℕ) → number (wordsOf s) ≡ beAt 16 s 0
+number-of : (s : List ℕ) → wordsNumber (wordsOf s) ≡ beAt 16 s 0
 unfolding wordsOf
 number-of s = sym (beAt-split 8 8 s 0 ∙ rw (beAt-split 4 4 s 0, beAt-split 4 4 s 8))
 
@@ -84,10 +74,6 @@ unfolding blockSum
 sum-words a b = rw (number-of a, number-of b)
 
 -- ---- outputs
-
--- what is prepared of a key: SM4's round keys, and nothing for SM3
-abbrev pub prepared : ℕ → List ℕ → List ℕ
-prepared algorithm key = cond (eqb algorithm algorithmSm4) (roundKeys (take 16 key)) (replicate 32 0)
 
 length-encrypted : (keys block : List ℕ) → length (encryptWith keys block) ≡ 16
 unfolding encryptWith reversed
@@ -103,7 +89,7 @@ unfolding chain
 length-chain keys s zero = length-encrypted keys (blockAt s 0)
 length-chain keys s (suc i) = length-encrypted keys (blockSum (chain keys s i) (blockAt s (suc i)))
 
-pub prepared-keys : (key : List ℕ) {k : Keys} → 16 ≤ length key → k ≡ keysAnswer (take 16 key) → k .words ≡ prepared 4 key
+pub prepared-keys : (key : List ℕ) {k : Keys} → 16 ≤ length key → k ≡ keysAnswer (take 16 key) → k .words ≡ prepared key
 unfolding keysAnswer
 prepared-keys key h e = rw (e, length-take-le 16 key h)
 
@@ -155,7 +141,7 @@ pub zeros-laid : (n : ℕ) (b : List ℕ) → length b ≤ n → put (replicate 
 zeros-laid n b h = rw (zero-add, drop-zeros (length b) n)
 
 -- the ID laid into zeros begins with the definition's blocks
-chained-of : (key id : List ℕ) {keys buffer : List ℕ} {blocks : ℕ} → length id ≤ 44 → keys ≡ prepared 4 key
+chained-of : (key id : List ℕ) {keys buffer : List ℕ} {blocks : ℕ} → length id ≤ 44 → keys ≡ prepared key
     → buffer ≡ put (replicate 48 0) 0 id → blocks ≡ (0 + max 16 (length id) + 15) / 16 → chain keys buffer (blocks - 1) ≡ chained key (filled id)
 unfolding chained filled toBlocks
 chained-of key id {keys} {buffer} {blocks} h k b n =
@@ -172,21 +158,8 @@ chained-of key id {keys} {buffer} {blocks} h k b n =
     let room : 16 * (blocks - 1 + 1) ≤ length s = omega arith in
     rw last (rw (laid, k) (chain-append (roundKeys (take 16 key)) s (replicate (48 - 16 * blocks) 0) (blocks - 1) room ∙ chain-outputs key s (blocks - 1)))
 
-pub length-prepared : (algorithm : ℕ) (key : List ℕ) → length (prepared algorithm key) ≡ 32
-length-prepared algorithm key = pick (eqb algorithm algorithmSm4)
-  where
-    pick : (b : Bool) → length (cond b (roundKeys (take 16 key)) (replicate 32 0)) ≡ 32
-    pick true = length-roundKeys (take 16 key)
-    pick false = refl
-
-pub prepared-cipher : (algorithm : ℕ) (key : List ℕ) {k : Keys} → algorithm ≡ algorithmSm4 → 16 ≤ length key → k ≡ keysAnswer (take 16 key)
-    → (length (k .words) ≡ 32) × (k .words ≡ prepared algorithm key)
-prepared-cipher algorithm key {k} a h e =
-    let w : k .words ≡ prepared algorithm key = rw a (prepared-keys key h e) in
-    (ap length w ∙ length-prepared algorithm key, w)
-
-pub prepared-hash : (algorithm : ℕ) (key : List ℕ) → (algorithm ≡ algorithmSm4 → ⊥) → (_≡_ {A = ℕ} 32 32) × (replicate 32 0 ≡ prepared algorithm key)
-prepared-hash algorithm key h = (refl, rw (ne-eqb algorithm algorithmSm4 h))
+pub length-prepared : (key : List ℕ) → length (prepared key) ≡ 32
+length-prepared key = length-roundKeys (take 16 key)
 
 pub block-length : (s : List ℕ) (i : ℕ) → 16 * i + 16 ≤ length s → length (blockAt s i) ≡ 16
 unfolding blockAt
@@ -196,12 +169,12 @@ block-length s i h = length-take-le 16 (drop (16 * i) s) (rw length-drop (omega 
 
 -- the first block's output and the round keys, made side by side
 pub first-output : (key s : List ℕ) {f : First} → 16 ≤ length key → 16 ≤ length s → f ≡ firstAnswer (take (16 - 0) (drop 0 key)) (take (16 - 0) (drop 0 s))
-    → (f .keys ≡ prepared 4 key) × (f .output ≡ wordsOf (chain (f .keys) s 0))
+    → (f .keys ≡ prepared key) × (f .output ≡ wordsOf (chain (f .keys) s 0))
 unfolding chain blockAt firstAnswer sm4Of
 first-output key s k l e = rw (e, length-take-le 16 key k, length-take-le 16 s l) (refl, refl)
 
 -- the cut, from the words of the last output
-pub ciphered-of : (key id : List ℕ) {keys buffer : List ℕ} {end : ℕ} {w : Quad} {r : ℕ} → length id ≤ 44 → keys ≡ prepared 4 key
+pub ciphered-of : (key id : List ℕ) {keys buffer : List ℕ} {end : ℕ} {w : Quad} {r : ℕ} → length id ≤ 44 → keys ≡ prepared key
     → buffer ≡ put (replicate 48 0) 0 id → end ≡ 0 + max 16 (length id) → w ≡ wordsOf (chain keys buffer ((end + 15) / 16 - 1))
     → r ≡ (w .a + w .b + w .c + w .d) % 2 ^ 32 → r ≡ cut (chained key (filled id))
 unfolding cut wordSum wordsOf

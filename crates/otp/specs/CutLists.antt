@@ -1,16 +1,16 @@
--- The cuts of consecutive steps without a challenge by either algorithm, and how many are made at once.
+-- The cut of a step by either algorithm, and how many consecutive ones without a challenge are made at once.
 use Prim.Native.Nat.{ℕ}
 use mathlib.Core.Path.{_≡_}
 use mathlib.Core.Bool.{Bool, cond}
 use mathlib.Core.List.{List}
 use lib.Dec.{eqb, leb}
-use Rattle.otp.specs.Password.{algorithmSm3, keyed, filled, cut}
-use Rattle.otp.specs.ChainLaws.{prepared}
-use Rattle.otp.specs.StepCuts.{stepId}
+use Rattle.otp.specs.Password.{algorithmSm3, idOf, keyed, filled, cut}
+use Rattle.otp.specs.Chain.{prepared}
+use Rattle.otp.specs.StepCuts.{timeAt, countAt}
 
--- the cut of a step
-unfoldable pub stepCut : ℕ → List ℕ → Bool → ℕ → ℕ
-stepCut algorithm key timed s = cut (keyed algorithm key (filled (stepId timed s)))
+-- the cut of a step, with Q if there is one
+unfoldable pub stepCut : ℕ → List ℕ → List ℕ → Bool → ℕ → ℕ
+stepCut algorithm key challenge timed s = cut (keyed algorithm key (filled (idOf (timeAt timed s) (countAt timed s) challenge)))
 
 -- where so many steps are left: four by SM3, or one
 unfoldable pub hashedWidth : ℕ → ℕ
@@ -29,4 +29,4 @@ firstWidth algorithm alone left = cond alone 1 (cond (eqb algorithm algorithmSm3
 
 -- SM4 has its round keys
 abbrev pub Keyed : ℕ → List ℕ → List ℕ → Type 0
-Keyed algorithm key keys = (algorithm ≡ algorithmSm3 → ⊥) → keys ≡ prepared 4 key
+Keyed algorithm key keys = (algorithm ≡ algorithmSm3 → ⊥) → keys ≡ prepared key

@@ -9,11 +9,13 @@ use borrow.Author.Tests.{eq-eqb, ne-eqb, eqb-true, eqb-false, le-leb, lt-leb}
 use lib.Dec.{eqb, leb}
 use lib.ListN.{length, set, take}
 use lib.Seq.{take-at}
-use Rattle.words.specs.ListsLaws.{by-test}
-use Rattle.otp.specs.Password.{algorithmSm3, filled}
+use Rattle.words.specs.BoolLaws.{by-test}
+use Rattle.sm3.specs.Sm3.{sm3Of}
+use Rattle.otp.specs.declared.Factor.{Factor}
+use Rattle.otp.specs.Password.{algorithmSm3, idOf, filled, chained, cut}
 use Rattle.otp.specs.PasswordLaws.{keyed-hashed, keyed-chained}
-use Rattle.otp.specs.ChainLaws.{prepared}
-use Rattle.otp.specs.StepCuts.{stepId, hashedCut, cutBy, cutsFrom}
+use Rattle.otp.specs.Chain.{prepared}
+use Rattle.otp.specs.StepCuts.{timeAt, countAt, stepId, hashedCut, cutBy, cutsFrom}
 use Rattle.otp.specs.StepCutsLaws.{step-cut, length-cutsFrom, same-cuts}
 use Rattle.otp.specs.CutLists.{stepCut, hashedWidth, keyedWidth, width, firstWidth}
 
@@ -87,20 +89,30 @@ module _ (algorithm left : ℕ) where
 -- ---- the cuts are the password's
 
 module _ (algorithm : ℕ) (key : List ℕ) (timed : Bool) where
-  pub hashed-cut-is : (s : ℕ) → algorithm ≡ algorithmSm3 → hashedCut key timed s ≡ stepCut algorithm key timed s
-  unfolding stepCut
+  pub hashed-cut-is : (s : ℕ) → algorithm ≡ algorithmSm3 → hashedCut key timed s ≡ stepCut algorithm key [] timed s
+  unfolding stepCut stepId
   hashed-cut-is s a = keyed-hashed algorithm key (filled (stepId timed s)) a
 
-  pub keyed-cut-is : (s : ℕ) {keys : List ℕ} → (algorithm ≡ algorithmSm3 → ⊥) → keys ≡ prepared 4 key → s < 2 ^ 64 → cutBy keys timed s ≡ stepCut algorithm key timed s
-  unfolding stepCut
+  pub keyed-cut-is : (s : ℕ) {keys : List ℕ} → (algorithm ≡ algorithmSm3 → ⊥) → keys ≡ prepared key → s < 2 ^ 64 → cutBy keys timed s ≡ stepCut algorithm key [] timed s
+  unfolding stepCut stepId
   keyed-cut-is s a e h = rw e (sym (step-cut key timed s h) ∙ keyed-chained algorithm key (filled (stepId timed s)) a)
 
-  pub hashed-list : (n s : ℕ) → algorithm ≡ algorithmSm3 → cutsFrom (hashedCut key timed) n s ≡ cutsFrom (stepCut algorithm key timed) n s
-  hashed-list n s a = same-cuts (hashedCut key timed) (stepCut algorithm key timed) n s (s + n) (omega arith) (λ x l. hashed-cut-is x a)
+  pub hashed-list : (n s : ℕ) → algorithm ≡ algorithmSm3 → cutsFrom (hashedCut key timed) n s ≡ cutsFrom (stepCut algorithm key [] timed) n s
+  hashed-list n s a = same-cuts (hashedCut key timed) (stepCut algorithm key [] timed) n s (s + n) (omega arith) (λ x l. hashed-cut-is x a)
 
-  pub keyed-list : (n s : ℕ) {keys : List ℕ} → (algorithm ≡ algorithmSm3 → ⊥) → keys ≡ prepared 4 key → s + n ≤ 2 ^ 64
-      → cutsFrom (cutBy keys timed) n s ≡ cutsFrom (stepCut algorithm key timed) n s
-  keyed-list n s {keys} a e h = same-cuts (cutBy keys timed) (stepCut algorithm key timed) n s (2 ^ 64) h (λ x l. keyed-cut-is x a e l)
+  pub keyed-list : (n s : ℕ) {keys : List ℕ} → (algorithm ≡ algorithmSm3 → ⊥) → keys ≡ prepared key → s + n ≤ 2 ^ 64
+      → cutsFrom (cutBy keys timed) n s ≡ cutsFrom (stepCut algorithm key [] timed) n s
+  keyed-list n s {keys} a e h = same-cuts (cutBy keys timed) (stepCut algorithm key [] timed) n s (2 ^ 64) h (λ x l. keyed-cut-is x a e l)
+
+-- the two ways of a cut with a challenge
+module _ (algorithm : ℕ) (key challenge : List ℕ) (timed : Bool) (s : ℕ) {time count : Factor} {r : ℕ} (et : time ≡ timeAt timed s) (ec : count ≡ countAt timed s) where
+  pub cut-hashed : algorithm ≡ algorithmSm3 → r ≡ cut (sm3Of (key ++ filled (idOf time count challenge))) → r ≡ stepCut algorithm key challenge timed s
+  unfolding stepCut
+  cut-hashed a e = e ∙ rw (et, ec) (keyed-hashed algorithm key (filled (idOf (timeAt timed s) (countAt timed s) challenge)) a)
+
+  pub cut-chained : (algorithm ≡ algorithmSm3 → ⊥) → r ≡ cut (chained key (filled (idOf time count challenge))) → r ≡ stepCut algorithm key challenge timed s
+  unfolding stepCut
+  cut-chained a e = e ∙ rw (et, ec) (keyed-chained algorithm key (filled (idOf (timeAt timed s) (countAt timed s) challenge)) a)
 
 -- ---- lists put at the front of a buffer
 

@@ -9,7 +9,7 @@ use lib.Seq.{take-at, drop-at}
 use Rattle.words.specs.Bytes.{beAt, beBytes, put}
 use Rattle.words.specs.PutLaws.{put-on}
 use Rattle.sm3.specs.Sm3.{digest, sm3Of}
-use Rattle.sm3.specs.Sm3Laws.{lastValue, wordTotal}
+use Rattle.sm3.specs.Rounds.{lastValue, wordTotal}
 use Rattle.sm3.specs.declared.Registers.{Registers}
 use Rattle.otp.specs.Password.{filled, wordSum, cut}
 use Rattle.otp.specs.ChainLaws.{zeros-laid}

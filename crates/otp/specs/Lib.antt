@@ -2,6 +2,7 @@
 pub mod Password
 pub mod PasswordLaws
 pub mod IdLaws
+pub mod Chain
 pub mod ChainLaws
 pub mod StepCuts
 pub mod StepCutsLaws
@@ -9,7 +10,10 @@ pub mod CutLists
 pub mod CutListsLaws
 pub mod Numbers
 pub mod NumbersLaws
+pub mod Typed
+pub mod TypedLaws
 pub mod HashedLaws
+pub mod StepWords
 pub mod SpanLaws
 pub mod StepLaws
 pub mod PasswordTable

@@ -1,24 +1,22 @@
 -- Digits are the same exactly if their numbers are.
 use Prim.Native.Nat.{ℕ, zero, suc, _+_, _-_, _*_, _/_, _%_, _^_, _≤_, _<_}
-use mathlib.Core.Bool.{Bool, true, false, _&&_}
+use mathlib.Core.Bool.{true, _&&_}
 use mathlib.Core.Path.{_≡_, refl, sym, ap, _∙_}
 use mathlib.Core.List.{List, [], _∷_, _++_, append-assoc, append-nil}
-use native.Mathlib.Nat.{add-zero, zero-add, pow-suc, mod-one, mod-lt, mod-le, mod-mod, one-le-pow, pow-le-pow-right, zero-lt-suc}
+use native.Mathlib.Nat.{add-zero, pow-suc, mod-one, mod-mod, one-le-pow, pow-le-pow-right, zero-lt-suc}
 use native.Mathlib.Numerals.{add-one}
 use native.Mathlib.Omega.{arith}
-use borrow.Author.Tests.{ne-eqb, eqb-true, eqb-false, le-leb, leb-true}
+use borrow.Author.Tests.{eqb-true, eqb-false, leb-true}
 use lib.Arith.{mod-mul}
 use lib.Dec.{eqb, leb}
 use lib.ListN.{length, getD, drop, drop-of-length-le}
 use lib.Seq.{drop-cons}
 use Rattle.words.specs.Lists.{sameBytes, allWithin}
-use Rattle.words.specs.ListsLaws.{same-equal, same-refl, by-test}
-use Rattle.words.specs.Tables.{and-left, and-right}
+use Rattle.words.specs.ListsLaws.{same-equal, same-refl}
+use Rattle.words.specs.BoolLaws.{by-test, and-left, and-right}
 use Rattle.otp.specs.Password.{decimals}
-use Rattle.otp.specs.Numbers.{numberFrom, numberOf}
-
-clash : {X : Type 0} {b : Bool} → b ≡ true → b ≡ false → X
-clash t f = let z : true ≡ false = sym t ∙ f in let y : _≡_ {A = ℕ} 0 1 = cc in absurd (omega arith)
+use Rattle.otp.specs.PasswordLaws.{decimals-mod}
+use Rattle.otp.specs.Numbers.{numberFrom}
 
 -- ---- from a number to its digits and back
 
@@ -35,7 +33,7 @@ number-decimals (suc n) y =
     number-append 0 (decimals n (y / 10)) (48 + y % 10)
     ∙ rw (number-decimals n (y / 10), d, pow-suc) (sym (mod-mul y (one-le-pow n 10 (zero-lt-suc 9)) (zero-lt-suc 9)))
 
-decimals-number : (k x : ℕ) (s : List ℕ) → allWithin 48 57 s ≡ true → decimals (k + length s) (numberFrom x s) ≡ decimals k x ++ s
+pub decimals-number : (k x : ℕ) (s : List ℕ) → allWithin 48 57 s ≡ true → decimals (k + length s) (numberFrom x s) ≡ decimals k x ++ s
 unfolding numberFrom decimals allWithin
 decimals-number k x [] t = rw (add-zero k) (sym (append-nil (decimals k x)))
 decimals-number k x (b ∷ s) t =
@@ -48,42 +46,17 @@ decimals-number k x (b ∷ s) t =
     rw e (decimals-number (suc k) (x * 10 + (b - 48)) s (and-right (leb 48 b && leb b 57) (allWithin 48 57 s) t)
     ∙ rw (q, r) (append-assoc (decimals k x) (b ∷ []) s))
 
-within-append : (low high : ℕ) (a : List ℕ) (b : ℕ) → allWithin low high a ≡ true → low ≤ b → b ≤ high → allWithin low high (a ++ (b ∷ [])) ≡ true
-unfolding allWithin
-within-append low high [] b t l h = rw (le-leb low b l, le-leb b high h)
-within-append low high (x ∷ a) b t l h =
-    rw (and-left (leb low x && leb x high) (allWithin low high a) t) (within-append low high a b (and-right (leb low x && leb x high) (allWithin low high a) t) l h)
+-- ---- the law: digits are the same exactly if the numbers that they show are
 
-decimals-within : (n y : ℕ) → allWithin 48 57 (decimals n y) ≡ true
-unfolding decimals allWithin
-decimals-within zero y = refl
-decimals-within (suc n) y =
-    let m = mod-lt y (zero-lt-suc 9) in
-    within-append 48 57 (decimals n (y / 10)) (48 + y % 10) (decimals-within n (y / 10)) (omega arith) (omega (arith, m))
-
--- ---- the law
-
-module _ (s : List ℕ) (n x : ℕ) (l : length s ≡ n) (small : x < 2 ^ 32) where
-  shown-number : decimals n (x % 10 ^ n) ≡ s → numberFrom 0 s ≡ x % 10 ^ n
-  shown-number e = ap (numberFrom 0) (sym e) ∙ number-decimals n (x % 10 ^ n) ∙ mod-mod x (10 ^ n)
-
-  shown-back : allWithin 48 57 s ≡ true → numberFrom 0 s ≡ x % 10 ^ n → decimals n (x % 10 ^ n) ≡ s
-  unfolding decimals
-  shown-back t e = let d = decimals-number 0 0 s t in rw (← e, ← l) (rw (zero-add (length s)) at d)
-
-  -- bytes are a password's digits exactly if its number is theirs
-  pub same-number : sameBytes s (decimals n (x % 10 ^ n)) ≡ eqb (x % 10 ^ n) (numberOf s)
-  unfolding numberOf
-  same-number =
-      by-test (allWithin 48 57 s)
-      (λ t. by-test (eqb (x % 10 ^ n) (numberFrom 0 s))
-      (λ q. rw (t, q, shown-back t (sym (eqb-true (x % 10 ^ n) (numberFrom 0 s) q))) (same-refl s))
-      (λ q. by-test (sameBytes s (decimals n (x % 10 ^ n)))
-      (λ p. absurd (eqb-false (x % 10 ^ n) (numberFrom 0 s) q (sym (shown-number (sym (same-equal s (decimals n (x % 10 ^ n)) p))))))
-      (λ p. rw (t, p, q))))
-      (λ t. by-test (sameBytes s (decimals n (x % 10 ^ n)))
-      (λ p. clash (ap (allWithin 48 57) (same-equal s (decimals n (x % 10 ^ n)) p) ∙ decimals-within n (x % 10 ^ n)) t)
-      (λ p. let m = mod-le x (10 ^ n) in rw (t, p) (sym (ne-eqb (x % 10 ^ n) (10 ^ 10) (λ e. omega (arith, m, small, e))))))
+pub same-digits : (n x y : ℕ) → sameBytes (decimals n y) (decimals n (x % 10 ^ n)) ≡ eqb (x % 10 ^ n) (y % 10 ^ n)
+same-digits n x y =
+    let back : decimals n y ≡ decimals n (x % 10 ^ n) → y % 10 ^ n ≡ x % 10 ^ n =
+    (λ e. sym (number-decimals n y) ∙ ap (numberFrom 0) e ∙ number-decimals n (x % 10 ^ n) ∙ mod-mod x (10 ^ n)) in
+    by-test (eqb (x % 10 ^ n) (y % 10 ^ n))
+    (λ q. rw (q, eqb-true (x % 10 ^ n) (y % 10 ^ n) q, decimals-mod n y) (same-refl (decimals n y)))
+    (λ q. by-test (sameBytes (decimals n y) (decimals n (x % 10 ^ n)))
+    (λ p. absurd (eqb-false (x % 10 ^ n) (y % 10 ^ n) q (sym (back (same-equal (decimals n y) (decimals n (x % 10 ^ n)) p)))))
+    (λ p. rw (p, q)))
 
 -- ---- the loop that reads a number
 
@@ -101,14 +74,6 @@ number-grows i x h l = rw (add-one, pow-suc) (omega (arith, h, l))
 
 pub number-fits : (i x : ℕ) → i < 10 → x + 23 ≤ 23 * 10 ^ i → x * 10 + 207 < 2 ^ 64
 number-fits i x h l = let m : i ≤ 10 = omega (arith, h) in let p : 10 ^ i ≤ 10 ^ 10 = pow-le-pow-right (zero-lt-suc 9) m in omega (arith, l, p)
-
-pub number-made : (s : List ℕ) {b : Bool} {r : ℕ} → b ≡ allWithin 48 57 s → b ≡ true → r ≡ numberFrom 0 s → r ≡ numberOf s
-unfolding numberOf
-number-made s w t e = rw (← w, t) e
-
-pub number-none : (s : List ℕ) {b : Bool} → b ≡ allWithin 48 57 s → b ≡ false → 10 ^ 10 ≡ numberOf s
-unfolding numberOf
-number-none s w t = rw (← w, t)
 
 -- ---- ten to the n
 

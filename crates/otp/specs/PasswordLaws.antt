@@ -14,7 +14,7 @@ use lib.Seq.{drop-cons, drop-set-lt, getD-set-same}
 use Rattle.words.specs.Lists.{allWithin}
 use Rattle.words.specs.Codes.{done, badArgument}
 use Rattle.words.specs.OutputLaws.{stored-refusal, stored-short, stored-whole}
-use Rattle.words.specs.Tables.{and-left, and-right}
+use Rattle.words.specs.BoolLaws.{and-left, and-right, impossible}
 use Rattle.sm3.specs.Sm3.{sm3Of}
 use Rattle.otp.specs.declared.Factor.{Factor}
 use Rattle.otp.specs.Password.{challengeOk, argumentsOk, idOf, filled, keyed, chained, cut, decimals, shown, passwordOf, passwordAnswer, algorithmSm3, algorithmSm4}
@@ -118,8 +118,8 @@ module _ (algorithm : ℕ) (key : List ℕ) (time count : Factor) (challenge : L
       either : {X : Type 0} (a b c d : Bool) → a || ((b && c) && d) ≡ true → (a ≡ true → X) → (c ≡ true → X) → X
       either true b c d t p q = p refl
       either false true true d t p q = q refl
-      either false true false d t p q = let n : _≡_ {A = ℕ} 0 1 = cc in absurd (omega arith)
-      either false false c d t p q = let n : _≡_ {A = ℕ} 0 1 = cc in absurd (omega arith)
+      either false true false d t p q = impossible (cc)
+      either false false c d t p q = impossible (cc)
 
 -- ---- the answer's three ways
 

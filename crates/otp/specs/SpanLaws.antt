@@ -12,15 +12,10 @@ use lib.Pow.{shr-lt}
 use lib.Seq.{getD-set-same, getD-set-other}
 use Rattle.words.specs.Bytes.{AreBytes, beAt, beBytes}
 use Rattle.words.specs.BytesLaws.{beAt-lt, beAt-split, beAt-beBytes, length-beBytes}
-use Rattle.words.specs.ListsLaws.{by-test}
+use Rattle.words.specs.BoolLaws.{by-test}
 use Rattle.words.specs.SumLaws.{zero-get, bytes-zeros, beAt-zeros}
 use Rattle.words.specs.SwapLaws.{bytes-append, bytes-beBytes}
-
--- word i of the three of n, which begins `bits` behind the beginning of the first
-unfoldable pub spanWord : ℕ → ℕ → ℕ → ℕ
-spanWord n bits zero = n / 2 ^ (32 + bits)
-spanWord n bits (suc zero) = n / 2 ^ bits % 2 ^ 32
-spanWord n bits (suc (suc i)) = n * 2 ^ (32 - bits) % 2 ^ 32
+use Rattle.otp.specs.StepWords.{spanWord, spanned}
 
 pub high-fits : (n bits : ℕ) → n < 2 ^ 64 → n / 2 ^ (32 + bits) < 2 ^ 32
 high-fits n bits h = let wider : 64 ≤ 32 + (32 + bits) = omega arith in shr-lt 32 (32 + bits) (lt-of-lt-of-le h (pow-le-pow-right (zero-lt-suc 1) wider))
@@ -47,13 +42,6 @@ span-third n bits (suc (suc i)) a b = low (n * 2 ^ (32 - bits))
 -- the bytes of n from byte at on, behind zeros
 abbrev pub placed : ℕ → ℕ → List ℕ
 placed at n = replicate at 0 ++ beBytes 8 n
-
--- the words w with those of n from byte at on
-abbrev pub spanned : ℕ → ℕ → List ℕ → List ℕ
-spanned at n w =
-    let j = at / 4 in
-    let bits = 8 * (at % 4) in
-    set (set (set w j (spanWord n bits 0)) (j + 1) (spanWord n bits 1)) (j + 2) (spanWord n bits 2)
 
 -- three words that are n's eight bytes behind r zeros
 three-words : (r n a b c : ℕ) → r < 4 → a < 2 ^ 32 → b < 2 ^ 32 → c < 2 ^ 32 → a * 2 ^ 64 + (b * 2 ^ 32 + c) ≡ n * 256 ^ (4 - r)

@@ -11,11 +11,12 @@ use Rattle.words.specs.Bytes.{beAt, beBytes}
 use Rattle.words.specs.BytesLaws.{beBytes-split, beBytes-mod, length-beBytes}
 use Rattle.sm4.specs.Sm4.{linear, steps, wordsOf, reversed, encryptWith, roundKeys, sm4Of}
 use Rattle.sm4.specs.Sm4Laws.{QuadBelow, steps-below, linear-lt}
-use Rattle.sm4.specs.ReturnLaws.{output-words}
+use Rattle.sm4.specs.EncryptLaws.{output-words}
 use Rattle.sm4.specs.declared.round.Quad.{Quad}
 use Rattle.otp.specs.declared.Factor.the-variants.{Absent, Present}
 use Rattle.otp.specs.Password.{factorBytes, idOf, filled, toBlocks, blockAt, outputOf, chained, wordSum, cut}
-use Rattle.otp.specs.ChainLaws.{prepared, bytes-words}
+use Rattle.otp.specs.Chain.{prepared}
+use Rattle.otp.specs.ChainLaws.{bytes-words}
 use Rattle.otp.specs.StepCuts.{stepId, stepBlock, wordsCut, cutBy, cutsFrom}
 
 -- ---- the list
@@ -130,7 +131,7 @@ reversed-cut q h =
     rw (l, a, b, c, d) (ap (λ (n : ℕ). n % 2 ^ 32) (let e : 0 + q .d + q .c + q .b + q .a ≡ q .a + q .b + q .c + q .d = omega arith in e))
 
 -- the law: a step's cut is that of the definition
-pub step-cut : (key : List ℕ) (timed : Bool) (s : ℕ) → s < 2 ^ 64 → cut (chained key (filled (stepId timed s))) ≡ cutBy (prepared 4 key) timed s
+pub step-cut : (key : List ℕ) (timed : Bool) (s : ℕ) → s < 2 ^ 64 → cut (chained key (filled (stepId timed s))) ≡ cutBy (prepared key) timed s
 unfolding cutBy sm4Of encryptWith
 step-cut key timed s h =
     let keys = roundKeys (take 16 key) in

@@ -1,7 +1,7 @@
 -- The cuts of four steps by SM3 without a challenge, whose hashes are made side by side.
 use Prim.Native.Nat.{ℕ, _+_, _-_, _*_, _/_, _%_, _^_, _≤_, _<_, zero-le}
 use mathlib.Core.Path.{_≡_, refl, sym, ap, _∙_}
-use mathlib.Core.Bool.{Bool, true, false, cond}
+use mathlib.Core.Bool.{Bool, true, false}
 use mathlib.Core.List.{List, [], _∷_, _++_, append-assoc, append-nil}
 use native.Mathlib.Nat.{zero-add, add-zero, add-comm, mod-eq-of-lt}
 use native.Mathlib.Omega.{arith}
@@ -12,22 +12,21 @@ use Rattle.words.specs.PutLaws.{put-nothing}
 use Rattle.words.specs.SumLaws.{bytes-zeros, over-zeros, beAt-sum}
 use Rattle.words.specs.SwapLaws.{bytes-append, bytes-beBytes}
 use Rattle.sm3.specs.Sm3.{zerosAfter, padded, wordsAt}
-use Rattle.sm3.specs.Sm3Laws.{wordTotal, words-append, length-padded}
-use Rattle.sm3.specs.PaddingLaws.{lastBlocks, last-blocks-one, last-blocks-fill}
-use Rattle.hash_lanes.specs.LaneLaws.{laneOf, length-lane, lane-zeros}
-use Rattle.hash_lanes.specs.MessageLaws.{among, among-is, Across, across-same, Added, words-are}
-use Rattle.hash_lanes.specs.FourLaws.{laneSum, laneSums, one-block}
-use Rattle.otp.specs.Password.{factorBytes, idOf, filled, cut}
+use Rattle.sm3.specs.Rounds.{wordTotal, lastBlocks}
+use Rattle.sm3.specs.Sm3Laws.{words-append, length-padded}
+use Rattle.sm3.specs.PaddingLaws.{last-blocks-one, last-blocks-fill}
+use Rattle.sm3_lanes.specs.Lanes.{laneOf, among, Across, Added, laneSum, laneSums}
+use Rattle.sm3_lanes.specs.LaneLaws.{length-lane, lane-zeros}
+use Rattle.sm3_lanes.specs.MessageLaws.{among-is, across-same, words-are}
+use Rattle.sm3_lanes.specs.FourLaws.{one-block}
+use Rattle.otp.specs.Password.{factorBytes, idOf, filled}
 use Rattle.otp.specs.StepCuts.{stepId, hashedCut, cutsFrom}
 use Rattle.otp.specs.StepCutsLaws.{four-cuts}
 use Rattle.otp.specs.HashedLaws.{cut-hash, laid-behind, laid-message}
-use Rattle.otp.specs.SpanLaws.{spanWord, placed, spanned, span-get}
+use Rattle.otp.specs.StepWords.{idNumber, spanWord, WordPut, StepsPut}
+use Rattle.otp.specs.SpanLaws.{placed, span-get}
 
 -- ---- a step's ID
-
--- the first eight bytes of the filled ID as a number: T, or C and zeros
-abbrev pub idNumber : Bool → ℕ → ℕ
-idNumber timed s = cond timed s (s % 2 ^ 32 * 2 ^ 32)
 
 number-lt : (timed : Bool) (s : ℕ) → s < 2 ^ 64 → idNumber timed s < 2 ^ 64
 number-lt true s h = h
@@ -50,10 +49,6 @@ filled-number false s =
 
 -- ---- four IDs put side by side
 
--- each message has word i of its step's ID, which begins at byte at
-abbrev pub WordPut : ℕ → Bool → ℕ → ℕ → List ℕ → List ℕ → Type 0
-WordPut at timed s i w w′ = Across (at / 4 + i) (λ k. spanWord (idNumber timed (s + k)) (8 * (at % 4)) i) w w′
-
 pub word-put : (at : ℕ) (timed : Bool) (s i : ℕ) (w w′ : List ℕ) {n₀ n₁ n₂ n₃ x₀ x₁ x₂ x₃ : ℕ}
     → n₀ ≡ idNumber timed s → n₁ ≡ idNumber timed (s + 1) → n₂ ≡ idNumber timed (s + 2) → n₃ ≡ idNumber timed (s + 3)
     → x₀ ≡ spanWord n₀ (8 * (at % 4)) i → x₁ ≡ spanWord n₁ (8 * (at % 4)) i → x₂ ≡ spanWord n₂ (8 * (at % 4)) i → x₃ ≡ spanWord n₃ (8 * (at % 4)) i
@@ -62,10 +57,6 @@ word-put at timed s i w w′ {x₀ = x₀} {x₁} {x₂} {x₃} e₀ e₁ e₂ e
     let each : ℕ → ℕ = (λ k. spanWord (idNumber timed (s + k)) (8 * (at % 4)) i) in
     let first : x₀ ≡ each 0 = p₀ ∙ rw (e₀, add-zero) in
     across-same (at / 4 + i) (among x₀ x₁ x₂ x₃) each w w′ (among-is each first (p₁ ∙ rw e₁) (p₂ ∙ rw e₂) (p₃ ∙ rw e₃))
-
--- each message has the number of its step's ID from byte at on
-pub record StepsPut (at : ℕ) (timed : Bool) (s : ℕ) (w w′ : List ℕ) : Type 0 where
-  pub each : (k : ℕ) → k < 4 → laneOf 68 k w′ ≡ spanned at (idNumber timed (s + k)) (laneOf 68 k w)
 
 pub steps-put : (at : ℕ) (timed : Bool) (s : ℕ) (w w₁ w₂ w₃ : List ℕ) → WordPut at timed s 0 w w₁ → WordPut at timed s 1 w₁ w₂ → WordPut at timed s 2 w₂ w₃
     → StepsPut at timed s w w₃

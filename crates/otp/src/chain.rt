@@ -1,34 +1,21 @@
 // The SM4 way (6.2.3): block by block, each output added to the next block. Between two blocks an output stays four words.
 use sm4::Quad;
 use sm4::encrypt_words;
+use sm4::round::words_of;
 use std::num::wrapping_add_u64 as add;
-use words::bytes::word_at;
 ghost use mathlib.Core.Path.{_≡_};
 ghost use mathlib.Core.Bool.{cond};
 ghost use lib.Dec.{ltb};
 ghost use Prim.Native.Nat.{_+_, _*_, _-_, _^_, _≤_, _<_};
 ghost use lib.ListN.{length};
 ghost use Rattle.sm4.specs.Sm4.{wordsOf};
-ghost use Rattle.otp.specs.ChainLaws.{chain, wordsSum};
+ghost use Rattle.otp.specs.Chain.{chain, wordsSum};
 
 // The carry out of a sum that wrapped: it is then below each of its terms.
 fn carry(sum: u64, term: u64) -> u64
     ensures { λ r. ⌜ r ≡ cond (ltb sum term) 1 0 ⌝ }
 {
     if sum < term { 1 } else { 0 }
-}
-
-// The four words of a block.
-pub(crate) fn words_of(block: &[u8]) -> Quad
-    requires { ⌜ length (now block) ≡ 16 ⌝ }
-    ensures { λ r. ⌜ r ≡ wordsOf (now (block .entry)) ⌝ }
-{
-    Quad {
-        a: word_at(block, 0),
-        b: word_at(block, 4),
-        c: word_at(block, 8),
-        d: word_at(block, 12),
-    }
 }
 
 // Two words as one number.
@@ -54,7 +41,7 @@ fn block_sum(p: Quad, q: Quad) -> Quad
     }
 }
 
-// The words of the output of the last of the first `blocks` blocks of s; `first` has those of the first.
+// The output of the last of the first `blocks` blocks of s, as words; `first` is that of the first block.
 pub(crate) fn chain(keys: &[u32], s: &[u8], first: Quad, blocks: usize) -> Quad
     requires { ⌜ length (now keys) ≡ 32 ⌝ }
     requires { ⌜ 0 < blocks ⌝ }

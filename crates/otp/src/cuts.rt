@@ -1,17 +1,17 @@
 // The cuts of consecutive steps by SM4 without a challenge, side by side or one alone, for the proved layers above: ID is then one block.
 use crate::cut::cut_words;
-use lanes::Five;
-use lanes::Three;
-use lanes::first_three;
-use lanes::five_blocks;
-use lanes::three_blocks;
 use sm4::Quad;
 use sm4::sides::sides_from;
+use sm4_lanes::Five;
+use sm4_lanes::Three;
+use sm4_lanes::first_three;
+use sm4_lanes::five_blocks;
+use sm4_lanes::three_blocks;
 ghost use mathlib.Core.Path.{_≡_};
 ghost use mathlib.Core.List.{[], _∷_};
 ghost use Prim.Native.Nat.{_+_, _^_, _≤_, _<_};
 ghost use lib.ListN.{length};
-ghost use Rattle.otp.specs.ChainLaws.{prepared};
+ghost use Rattle.otp.specs.Chain.{prepared};
 ghost use Rattle.otp.specs.StepCuts.{stepBlock, wordsCut, cutBy, cutsFrom};
 
 // The words of a step's block: a time token's T has two, an event token's C one.
@@ -37,11 +37,11 @@ fn block_of(timed: bool, s: u64) -> Quad
 }
 
 // The cut of step s by itself, under a fresh key. The round keys are left in keys.
-pub fn first_cut(key: &[u8], timed: bool, s: u64, keys: &mut [u32]) -> u32
+pub(crate) fn first_cut(key: &[u8], timed: bool, s: u64, keys: &mut [u32]) -> u32
     requires { ⌜ 16 ≤ length (now key) ⌝ }
     requires { ⌜ length (now keys) ≡ 32 ⌝ }
-    ensures { λ r. ⌜ r ≡ cutBy (prepared 4 (now (key .entry))) timed s ⌝ }
-    ensures { λ _. ⌜ now (keys .exit) ≡ prepared 4 (now (key .entry)) ⌝ }
+    ensures { λ r. ⌜ r ≡ cutBy (prepared (now (key .entry))) timed s ⌝ }
+    ensures { λ _. ⌜ now (keys .exit) ≡ prepared (now (key .entry)) ⌝ }
 {
     let block = block_of(timed, s);
     cut_words(sides_from(&key[0..16], block, keys))
@@ -72,19 +72,19 @@ fn three_cuts(states: Three) -> [u32; 3]
 }
 
 // The cuts of three steps from s on, under a fresh key. The round keys are left in keys.
-pub fn first_cuts(key: &[u8], timed: bool, s: u64, keys: &mut [u32]) -> [u32; 3]
+pub(crate) fn first_cuts(key: &[u8], timed: bool, s: u64, keys: &mut [u32]) -> [u32; 3]
     requires { ⌜ 16 ≤ length (now key) ⌝ }
     requires { ⌜ length (now keys) ≡ 32 ⌝ }
     requires { ⌜ s < 2 ^ 63 ⌝ }
-    ensures { λ r. ⌜ r ≡ cutsFrom (cutBy (prepared 4 (now (key .entry))) timed) 3 s ⌝ }
-    ensures { λ _. ⌜ now (keys .exit) ≡ prepared 4 (now (key .entry)) ⌝ }
+    ensures { λ r. ⌜ r ≡ cutsFrom (cutBy (prepared (now (key .entry))) timed) 3 s ⌝ }
+    ensures { λ _. ⌜ now (keys .exit) ≡ prepared (now (key .entry)) ⌝ }
 {
     let blocks = three_from(timed, s);
     three_cuts(first_three(&key[0..16], blocks, keys))
 }
 
 // Those of three steps from s on, under round keys.
-pub fn few_cuts(keys: &[u32], timed: bool, s: u64) -> [u32; 3]
+pub(crate) fn few_cuts(keys: &[u32], timed: bool, s: u64) -> [u32; 3]
     requires { ⌜ length (now keys) ≡ 32 ⌝ }
     requires { ⌜ s < 2 ^ 63 ⌝ }
     ensures { λ r. ⌜ r ≡ cutsFrom (cutBy (now (keys .entry)) timed) 3 s ⌝ }
@@ -94,7 +94,7 @@ pub fn few_cuts(keys: &[u32], timed: bool, s: u64) -> [u32; 3]
 }
 
 // Those of five steps from s on, under round keys.
-pub fn next_cuts(keys: &[u32], timed: bool, s: u64) -> [u32; 5]
+pub(crate) fn next_cuts(keys: &[u32], timed: bool, s: u64) -> [u32; 5]
     requires { ⌜ length (now keys) ≡ 32 ⌝ }
     requires { ⌜ s < 2 ^ 63 ⌝ }
     ensures { λ r. ⌜ r ≡ cutsFrom (cutBy (now (keys .entry)) timed) 5 s ⌝ }

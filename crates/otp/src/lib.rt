@@ -8,7 +8,8 @@ pub mod lists;
 pub mod number;
 mod once;
 pub mod prepared;
-pub mod steps;
+mod steps;
+pub mod typed;
 
 pub use arguments::arguments_ok;
 pub use arguments::challenge_ok;

@@ -8,12 +8,13 @@ use crate::steps::hashed_cut;
 use crate::steps::hashed_cuts;
 use words::word::copy_words;
 ghost use mathlib.Core.Path.{_≡_};
+ghost use mathlib.Core.List.{[]};
 ghost use Prim.Native.Nat.{_^_, _≤_, _<_};
 ghost use lib.ListN.{length, take};
 ghost use Rattle.otp.specs.StepCuts.{hashedCut, cutBy, cutsFrom};
 ghost use Rattle.otp.specs.CutLists.{stepCut, hashedWidth, keyedWidth, width, firstWidth, Keyed};
 
-// The most cuts that are made at once.
+// A buffer of cuts has room for the most that are made at once.
 pub const MOST_CUTS: usize = 5;
 
 // Those of the steps from s on by SM3. One step that is left alone costs less than four side by side.
@@ -48,7 +49,8 @@ fn put_keyed(keys: &[u32], timed: bool, s: u64, left: u64, cuts: &mut [u32]) -> 
     5
 }
 
-// Puts the cuts of the steps from s on, and answers how many, if `left` are left.
+// Puts the cuts of steps s, s + 1, .. at the front of cuts, and answers how many. `left` steps are left to search, and a few more may be cut:
+// by SM4, where four are left from step 100 on, those of 100 to 104.
 pub fn put_cuts(
     algorithm: u8,
     key: &[u8],
@@ -63,7 +65,7 @@ pub fn put_cuts(
     requires { ⌜ s < 2 ^ 63 ⌝ }
     requires { ⌜ length (now cuts) ≡ 5 ⌝ }
     ensures { λ r. ⌜ r ≡ width algorithm left ⌝ }
-    ensures { λ _. ⌜ take (width algorithm left) (now (cuts .exit)) ≡ cutsFrom (stepCut algorithm (now (key .entry)) timed) (width algorithm left) s ⌝ }
+    ensures { λ _. ⌜ take (width algorithm left) (now (cuts .exit)) ≡ cutsFrom (stepCut algorithm (now (key .entry)) [] timed) (width algorithm left) s ⌝ }
 {
     if algorithm == SM3 {
         return put_hashed(key, timed, s, left, cuts);
@@ -76,7 +78,7 @@ fn alone_cut(algorithm: u8, key: &[u8], timed: bool, s: u64, keys: &mut [u32]) -
     requires { ⌜ 16 ≤ length (now key) ⌝ }
     requires { ⌜ length (now key) ≤ 32 ⌝ }
     requires { ⌜ length (now keys) ≡ 32 ⌝ }
-    ensures { λ r. ⌜ r ≡ stepCut algorithm (now (key .entry)) timed s ⌝ }
+    ensures { λ r. ⌜ r ≡ stepCut algorithm (now (key .entry)) [] timed s ⌝ }
     ensures { λ _. ⌜ Keyed algorithm (now (key .entry)) (now (keys .exit)) ⌝ }
 {
     if algorithm == SM3 {
@@ -85,7 +87,8 @@ fn alone_cut(algorithm: u8, key: &[u8], timed: bool, s: u64, keys: &mut [u32]) -
     first_cut(key, timed, s, keys)
 }
 
-// The same under a fresh key, of one step where it is to go alone. SM4's round keys are left in keys.
+// The same where the key is fresh: SM4's round keys are made with the first cuts, and left in keys for those that follow. A step that is to go alone,
+// as the one that most logins use, is cut alone; else, from step 100 on, SM4 cuts 100 to 102, and SM3 cuts 100 to 103.
 pub fn put_first_cuts(
     algorithm: u8,
     key: &[u8],
@@ -102,7 +105,7 @@ pub fn put_first_cuts(
     requires { ⌜ length (now cuts) ≡ 5 ⌝ }
     requires { ⌜ length (now keys) ≡ 32 ⌝ }
     ensures { λ r. ⌜ r ≡ firstWidth algorithm alone left ⌝ }
-    ensures { λ _. ⌜ take (firstWidth algorithm alone left) (now (cuts .exit)) ≡ cutsFrom (stepCut algorithm (now (key .entry)) timed) (firstWidth algorithm alone left) s ⌝ }
+    ensures { λ _. ⌜ take (firstWidth algorithm alone left) (now (cuts .exit)) ≡ cutsFrom (stepCut algorithm (now (key .entry)) [] timed) (firstWidth algorithm alone left) s ⌝ }
     ensures { λ _. ⌜ Keyed algorithm (now (key .entry)) (now (keys .exit)) ⌝ }
 {
     if alone {

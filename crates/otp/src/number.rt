@@ -1,12 +1,8 @@
-// A password as a number, for the proved layers above: they give its length.
-use words::bytes::within;
+// Passwords as numbers: what digits show, and how many numbers they have.
 ghost use mathlib.Core.Path.{_≡_};
 ghost use Prim.Native.Nat.{_-_, _^_, _≤_};
 ghost use lib.ListN.{length};
-ghost use Rattle.otp.specs.Numbers.{numberOf};
-
-// What no password has as its number.
-const NO_NUMBER: u64 = 10_000_000_000;
+ghost use Rattle.otp.specs.Numbers.{numberFrom};
 
 fn digit(b: u8) -> u64
     ensures { λ r. ⌜ r ≡ b - 48 ⌝ }
@@ -18,13 +14,11 @@ fn digit(b: u8) -> u64
     (b - 48) as u64
 }
 
-pub fn number_of(digits: &[u8]) -> u64
+// The number that ASCII digits show, for callers that have looked at each.
+pub(crate) fn number_shown(digits: &[u8]) -> u64
     requires { ⌜ length (now digits) ≤ 10 ⌝ }
-    ensures { λ r. ⌜ r ≡ numberOf (now (digits .entry)) ⌝ }
+    ensures { λ r. ⌜ r ≡ numberFrom 0 (now (digits .entry)) ⌝ }
 {
-    if !within(digits, 48, 57) {
-        return NO_NUMBER;
-    }
     let mut x: u64 = 0;
     let mut i = 0;
     while i < digits.len() {

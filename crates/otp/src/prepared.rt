@@ -1,35 +1,55 @@
-// The password with a key prepared once for many, for the proved layers above: they require what those give.
+// The cut of a step with a challenge, with a key prepared once for many, for the proved layers above: they require what those give.
 use crate::Factor;
 use crate::SM3;
-use crate::SM4;
 use crate::chain::chain;
-use crate::chain::words_of;
 use crate::cut::cut_words;
-use crate::cut::put_decimals;
 use crate::id::put_bytes;
 use crate::id::put_id;
 use sm3::sums::hash_sum;
 use sm4::encrypt_words;
+use sm4::round::words_of;
 use sm4::round_keys;
 ghost use mathlib.Core.Path.{_≡_};
-ghost use mathlib.Core.Bool.{true};
 ghost use mathlib.Core.List.{_++_};
 ghost use Prim.Native.Nat.{_≤_};
-ghost use lib.ListN.{length, drop};
+ghost use lib.ListN.{length};
 ghost use Rattle.sm3.specs.Sm3.{sm3Of};
-ghost use Rattle.otp.specs.Password.{idOf, filled, chained, cut, keyed, argumentsOk, passwordOf};
-ghost use Rattle.otp.specs.ChainLaws.{prepared};
+ghost use Rattle.otp.specs.Password.{idOf, filled, chained, cut};
+ghost use Rattle.otp.specs.Chain.{prepared};
+ghost use Rattle.otp.specs.StepCuts.{timeAt, countAt};
+ghost use Rattle.otp.specs.CutLists.{stepCut, Keyed};
 
-// What a key needs once for many passwords: SM4's round keys, and nothing for SM3.
+// A time token's step is its time factor T, an event token's its count C.
+pub(crate) fn time_at(timed: bool, s: u64) -> Factor
+    ensures { λ r. ⌜ r ≡ timeAt timed s ⌝ }
+{
+    if timed {
+        Factor::Present(s)
+    } else {
+        Factor::Absent
+    }
+}
+
+pub(crate) fn count_at(timed: bool, s: u64) -> Factor
+    ensures { λ r. ⌜ r ≡ countAt timed s ⌝ }
+{
+    if timed {
+        Factor::Absent
+    } else {
+        Factor::Present(s)
+    }
+}
+
+// What a key needs once for many cuts: SM4's round keys, and nothing for SM3.
 pub fn prepare(algorithm: u8, key: &[u8]) -> [u32; 32]
     requires { ⌜ 16 ≤ length (now key) ⌝ }
     ensures { λ r. ⌜ length r ≡ 32 ⌝ }
-    ensures { λ r. ⌜ r ≡ prepared algorithm (now (key .entry)) ⌝ }
+    ensures { λ r. ⌜ Keyed algorithm (now (key .entry)) r ⌝ }
 {
-    if algorithm == SM4 {
-        return round_keys(&key[0..16]).words;
+    if algorithm == SM3 {
+        return [0u32; 32];
     }
-    [0u32; 32]
+    round_keys(&key[0..16]).words
 }
 
 // The SM3 way (6.2.2), cut.
@@ -45,14 +65,8 @@ pub(crate) fn hashed(key: &[u8], time: Factor, count: Factor, challenge: &[u8]) 
 }
 
 // The SM4 way (6.2.3), cut.
-pub(crate) fn ciphered(
-    key: &[u8],
-    keys: &[u32],
-    time: Factor,
-    count: Factor,
-    challenge: &[u8],
-) -> u32
-    requires { ⌜ now keys ≡ prepared 4 (now key) ⌝ }
+fn ciphered(key: &[u8], keys: &[u32], time: Factor, count: Factor, challenge: &[u8]) -> u32
+    requires { ⌜ now keys ≡ prepared (now key) ⌝ }
     requires { ⌜ length (now challenge) ≤ 32 ⌝ }
     ensures { λ r. ⌜ r ≡ cut (chained (now (key .entry)) (filled (idOf time count (now (challenge .entry))))) ⌝ }
 {
@@ -62,42 +76,24 @@ pub(crate) fn ciphered(
     cut_words(chain(keys, &buffer, first, (end + 15) / 16))
 }
 
-// The cut of the algorithm's output, before its digits are taken.
-fn truncated(
+// The cut of step s with a challenge.
+pub fn cut_with(
     algorithm: u8,
     key: &[u8],
     keys: &[u32],
-    time: Factor,
-    count: Factor,
     challenge: &[u8],
-    digits: usize,
+    timed: bool,
+    s: u64,
 ) -> u32
-    requires { ⌜ argumentsOk algorithm (now key) time count (now challenge) digits ≡ true ⌝ }
-    requires { ⌜ now keys ≡ prepared algorithm (now key) ⌝ }
-    ensures { λ r. ⌜ r ≡ cut (keyed algorithm (now (key .entry)) (filled (idOf time count (now (challenge .entry))))) ⌝ }
+    requires { ⌜ length (now key) ≤ 32 ⌝ }
+    requires { ⌜ length (now challenge) ≤ 32 ⌝ }
+    requires { ⌜ Keyed algorithm (now key) (now keys) ⌝ }
+    ensures { λ r. ⌜ r ≡ stepCut algorithm (now (key .entry)) (now (challenge .entry)) timed s ⌝ }
 {
+    let time = time_at(timed, s);
+    let count = count_at(timed, s);
     if algorithm == SM3 {
         return hashed(key, time, count, challenge);
     }
     ciphered(key, keys, time, count, challenge)
-}
-
-// The password with a key that `prepare` has prepared, for callers that have tested the arguments.
-pub fn password_with(
-    algorithm: u8,
-    key: &[u8],
-    keys: &[u32],
-    time: Factor,
-    count: Factor,
-    challenge: &[u8],
-    digits: usize,
-    out: &mut [u8],
-)
-    requires { ⌜ argumentsOk algorithm (now key) time count (now challenge) digits ≡ true ⌝ }
-    requires { ⌜ now keys ≡ prepared algorithm (now key) ⌝ }
-    requires { ⌜ digits ≤ length (now out) ⌝ }
-    ensures { λ _. ⌜ now (out .exit) ≡ passwordOf algorithm (now (key .entry)) time count (now (challenge .entry)) digits ++ drop digits (now (out .entry)) ⌝ }
-{
-    let sum = truncated(algorithm, key, keys, time, count, challenge, digits);
-    put_decimals(sum, digits, out);
 }

@@ -1,41 +1,20 @@
 // The cuts of four consecutive steps by SM3 without a challenge, side by side, for the proved layers above.
-use crate::Factor;
 use crate::id::put_bytes;
+use crate::prepared::count_at;
 use crate::prepared::hashed;
-use hash_lanes::add_block;
-use hash_lanes::four_sums;
-use hash_lanes::put_four;
+use crate::prepared::time_at;
 use sm3::sums::pad;
+use sm3_lanes::add_block;
+use sm3_lanes::four_sums;
+use sm3_lanes::put_four;
 ghost use mathlib.Core.Path.{_≡_};
 ghost use Prim.Native.Nat.{_^_, _≤_, _<_};
 ghost use lib.ListN.{length};
-ghost use Rattle.otp.specs.StepCuts.{timeAt, countAt, hashedCut, cutsFrom};
-ghost use Rattle.otp.specs.SpanLaws.{spanWord};
-ghost use Rattle.otp.specs.StepLaws.{idNumber, WordPut, StepsPut};
-
-// A time token's step is its time factor T, an event token's its count C.
-pub fn time_at(timed: bool, s: u64) -> Factor
-    ensures { λ r. ⌜ r ≡ timeAt timed s ⌝ }
-{
-    if timed {
-        Factor::Present(s)
-    } else {
-        Factor::Absent
-    }
-}
-
-pub fn count_at(timed: bool, s: u64) -> Factor
-    ensures { λ r. ⌜ r ≡ countAt timed s ⌝ }
-{
-    if timed {
-        Factor::Absent
-    } else {
-        Factor::Present(s)
-    }
-}
+ghost use Rattle.otp.specs.StepCuts.{hashedCut, cutsFrom};
+ghost use Rattle.otp.specs.StepWords.{idNumber, spanWord, WordPut, StepsPut};
 
 // The cut of step s.
-pub fn hashed_cut(key: &[u8], timed: bool, s: u64) -> u32
+pub(crate) fn hashed_cut(key: &[u8], timed: bool, s: u64) -> u32
     requires { ⌜ length (now key) ≤ 32 ⌝ }
     ensures { λ r. ⌜ r ≡ hashedCut (now (key .entry)) timed s ⌝ }
 {
@@ -99,7 +78,7 @@ fn put_steps(w: &mut [u32], at: usize, timed: bool, s: u64)
 }
 
 // The cuts of the steps s to s + 3. Key and padding are laid once.
-pub fn hashed_cuts(key: &[u8], timed: bool, s: u64) -> [u32; 4]
+pub(crate) fn hashed_cuts(key: &[u8], timed: bool, s: u64) -> [u32; 4]
     requires { ⌜ length (now key) ≤ 32 ⌝ }
     requires { ⌜ s < 2 ^ 63 ⌝ }
     ensures { λ r. ⌜ r ≡ cutsFrom (hashedCut (now (key .entry)) timed) 4 s ⌝ }

@@ -9,7 +9,8 @@ use native.Mathlib.Omega.{arith}
 use borrow.Author.Tests.{lt-ltb, le-ltb, ltb-true, ltb-false, lt-leb, leb-false, ne-eqb, eqb-true, eqb-false, not-true, not-false}
 use lib.Dec.{eqb, leb, ltb, lit<, lit≤}
 use lib.ListN.{length, getD, take, drop, replicate}
-use Rattle.words.specs.ListsLaws.{by-test, and-false, drop-zeros}
+use Rattle.words.specs.ListsLaws.{drop-zeros}
+use Rattle.words.specs.BoolLaws.{by-test, and-false, impossible}
 use Rattle.otp.specs.declared.Factor.{Factor}
 use Rattle.otp.specs.declared.Factor.the-variants.{Absent, Present}
 use Rattle.otp.specs.Password.{argumentsOk, passwordOf, passwordAnswer}
@@ -17,22 +18,12 @@ use Rattle.otp.specs.PasswordLaws.{key-short, challenge-short, known-algorithm,
 use Rattle.words.specs.Codes.{done, badArgument}
 use Rattle.text.specs.declared.numbers.Number.{Number}
 use Rattle.text.specs.declared.hexadecimal.Decoded.{Decoded}
-use Rattle.text.specs.Text.{digitValue, digitsFrom, decoded, decodedOf, decimalOf, bounded, numberOf, hexOf, fieldsOf, sumLengths}
+use Rattle.text.specs.Text.{digitValue, digitsFrom, decoded, decodedOf, decimalOf, bounded, numberIn, hexOf, fieldsOf, sumLengths}
 use Rattle.text.specs.TextLaws.{decimal-range, decimal-value, number-value, hex-decoded, decimal-length, hex-length, length-fields, SixFields}
 use Rattle.password_lines.specs.declared.Printed.{Printed}
-use Rattle.password_lines.specs.declared.fields.FactorRead.{FactorRead}
 use Rattle.password_lines.specs.declared.fields.FactorRead.the-variants.{Is, Bad}
+use Rattle.password_lines.specs.Fields.{readOf, smallOf}
 use Rattle.password_lines.specs.Line.{refusal, given, below, factorField, passwordText, fieldsAnswer, fieldOf, lineAnswer, printedOf}
-
--- a factor's field as the function gives it
-abbrev pub readOf : Option Factor → FactorRead
-readOf none = Bad
-readOf (some f) = Is f
-
--- a small number as the function gives it: 0 for what is none or too large
-abbrev pub smallOf : Option ℕ → ℕ
-smallOf none = 0
-smallOf (some x) = cond (ltb x 256) x 0
 
 -- what holds of the refusal, and of what follows each value read, holds of the answer
 given-holds : {A : Type 0} (Q : List ℕ → Type 0) → Q refusal → (o : Option A) (f : A → List ℕ) → ((x : A) → o ≡ some x → Q (f x)) → Q (given o f)
@@ -45,7 +36,7 @@ unfolding bounded
 not-bounded Q q h none e = q
 not-bounded Q q h (some v) e =
     by-test (ltb v (2 ^ 64))
-    (λ t. let z : cond true (Number.Value v) Number.Bad ≡ Number.Bad = rw t at e in let y : _≡_ {A = ℕ} 0 1 = cc in absurd (omega arith))
+    (λ t. let z : cond true (Number.Value v) Number.Bad ≡ Number.Bad = rw t at e in impossible (cc))
     (λ t. h v (ltb-false v (2 ^ 64) t))
 
 -- ---- factors
@@ -65,21 +56,21 @@ module _ (most : ℕ) (fits : most < 2 ^ 64) where
   no-number : (o : Option ℕ) → bounded o ≡ Number.Bad → Bad ≡ readOf (below (most + 1) o)
   no-number = not-bounded (λ o. Bad ≡ readOf (below (most + 1) o)) refl (λ v l. rw (le-ltb v (most + 1) (omega arith)))
 
-  pub factor-bad : (s : List ℕ) → (length s ≡ 0 → ⊥) → numberOf s ≡ Number.Bad → Bad ≡ readOf (factorField (most + 1) s)
+  pub factor-bad : (s : List ℕ) → (length s ≡ 0 → ⊥) → numberIn s ≡ Number.Bad → Bad ≡ readOf (factorField (most + 1) s)
   factor-bad s h e = rw (factor-given (most + 1) s h) (no-number (decimalOf s) e)
 
-  pub factor-within : (s : List ℕ) {x : ℕ} → (length s ≡ 0 → ⊥) → numberOf s ≡ Number.Value x → x ≤ most → Is (Present x) ≡ readOf (factorField (most + 1) s)
+  pub factor-within : (s : List ℕ) {x : ℕ} → (length s ≡ 0 → ⊥) → numberIn s ≡ Number.Value x → x ≤ most → Is (Present x) ≡ readOf (factorField (most + 1) s)
   factor-within s {x} h e l = rw (factor-given (most + 1) s h, number-value s e .0, lt-ltb x (most + 1) (omega arith))
 
-  pub factor-above : (s : List ℕ) {x : ℕ} → (length s ≡ 0 → ⊥) → numberOf s ≡ Number.Value x → most < x → Bad ≡ readOf (factorField (most + 1) s)
+  pub factor-above : (s : List ℕ) {x : ℕ} → (length s ≡ 0 → ⊥) → numberIn s ≡ Number.Value x → most < x → Bad ≡ readOf (factorField (most + 1) s)
   factor-above s {x} h e l = rw (factor-given (most + 1) s h, number-value s e .0, le-ltb x (most + 1) (omega arith))
 
 none-read : (o : Option Factor) → Bad ≡ readOf o → o ≡ none
 none-read none e = refl
-none-read (some f) e = let z : _≡_ {A = ℕ} 0 1 = cc in absurd (omega arith)
+none-read (some f) e = impossible (cc)
 
 some-read : (o : Option Factor) {f : Factor} → Is f ≡ readOf o → o ≡ some f
-some-read none e = let z : _≡_ {A = ℕ} 0 1 = cc in absurd (omega arith)
+some-read none e = impossible (cc)
 some-read (some f) e = cc
 
 -- ---- small numbers
@@ -102,13 +93,13 @@ alone-byte [] l e p = absurd (omega arith)
 alone-byte (b ∷ []) l e p = rw e at p
 alone-byte (b ∷ c ∷ s) l e p = absurd (omega arith)
 
-pub small-bad : (s : List ℕ) → numberOf s ≡ Number.Bad → 0 ≡ smallOf (decimalOf s)
+pub small-bad : (s : List ℕ) → numberIn s ≡ Number.Bad → 0 ≡ smallOf (decimalOf s)
 small-bad s e = not-bounded (λ o. 0 ≡ smallOf o) refl (λ v l. rw (le-ltb v 256 (omega arith))) (decimalOf s) e
 
-pub small-within : (s : List ℕ) {x : ℕ} → numberOf s ≡ Number.Value x → x < 256 → x ≡ smallOf (decimalOf s)
+pub small-within : (s : List ℕ) {x : ℕ} → numberIn s ≡ Number.Value x → x < 256 → x ≡ smallOf (decimalOf s)
 small-within s {x} e l = rw (number-value s e .0, lt-ltb x 256 l)
 
-pub small-above : (s : List ℕ) {x : ℕ} → numberOf s ≡ Number.Value x → 256 ≤ x → 0 ≡ smallOf (decimalOf s)
+pub small-above : (s : List ℕ) {x : ℕ} → numberIn s ≡ Number.Value x → 256 ≤ x → 0 ≡ smallOf (decimalOf s)
 small-above s {x} e l = rw (number-value s e .0, le-ltb x 256 l)
 
 -- ---- the password
@@ -192,7 +183,7 @@ unfolding decoded
 hex-bad none f h e = refl
 hex-bad (some k) f h e =
     by-test (leb (length k) 32)
-    (λ t. let z : true ≡ false = rw t at e in let y : _≡_ {A = ℕ} 0 1 = cc in absurd (omega arith))
+    (λ t. let z : true ≡ false = rw t at e in impossible (cc))
     (λ t. h k (leb-false (length k) 32 t))
 
 module _ (key time count challenge algorithm digits : List ℕ) where
@@ -292,7 +283,7 @@ factor-length limit [] d p h e = zero-le
 factor-length limit (b ∷ s) d {f} p h e = number (decimalOf (b ∷ s)) refl e
   where
     number : (o : Option ℕ) → decimalOf (b ∷ s) ≡ o → below limit o ≡ some f → length (b ∷ s) ≤ d
-    number none q e = let z : _≡_ {A = ℕ} 0 1 = cc in absurd (omega arith)
+    number none q e = impossible (cc)
     number (some v) q e =
         by-test (ltb v limit)
         (λ t. decimal-length (b ∷ s) d q p (lt-of-lt-of-le (ltb-true v limit t) h))

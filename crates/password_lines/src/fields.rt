@@ -11,7 +11,7 @@ ghost use mathlib.Core.List.{[], _∷_};
 ghost use Prim.Native.Nat.{_+_};
 ghost use Rattle.text.specs.Text.{decimalOf};
 ghost use Rattle.password_lines.specs.Line.{refusal, factorField, passwordText, fieldsAnswer, printedOf};
-ghost use Rattle.password_lines.specs.LineLaws.{readOf, smallOf};
+ghost use Rattle.password_lines.specs.Fields.{readOf, smallOf};
 
 // A factor's field: the factor, or a number that is not right.
 pub enum FactorRead {

@@ -40,19 +40,19 @@ literalNumbers =
     record {
       state = 1;
       track = record {
-        rule = record { kind = 2; algorithm = 3; digits = 4 };
+        scheme = record { kind = 2; algorithm = 3; digits = 4 };
         period = 5;
         next = record { 0 = 0x4041424344454647 };
         offset = record { 0 = 0x5051 };
       };
       limit = 6;
       errors = 7;
-      length = 8;
+      «key_length» = 8;
       serial = 0x1011121314151617;
       wait = 0x60616263;
       expiry = record { 0 = 0x7071727374757677 };
-      locked = record { 0 = 0x8081828384858687 };
-      used = record { 0 = 0x9091929394959697 };
+      «locked_at» = record { 0 = 0x8081828384858687 };
+      «last_use» = record { 0 = 0x9091929394959697 };
     }
 
 -- the literal row as the second of three; the first is not empty, and the third is
@@ -70,13 +70,25 @@ pub layout-rendered : render literalNumbers keyLiteral ≡ literalRow
 unfolding render beforeKey stepBytes timeBytes beBytes
 layout-rendered = refl
 
-pub layout-found : findRow threeRows 0x1011121314151617 ≡ At 96
+pub layout-found : findRow 96 threeRows 0x1011121314151617 ≡ At 96
 unfolding findRow firstRow hasSerial beAt
 layout-found = refl
 
-pub layout-empty : findEmpty threeRows ≡ At 192
+pub layout-empty : findEmpty 96 threeRows ≡ At 192
 unfolding findEmpty firstRow
 layout-empty = refl
+
+-- wider rows, with 32 bytes behind the layout
+abbrev pub threeWideRows : List ℕ
+threeWideRows = replicate 128 0xee ++ ((literalRow ++ replicate 32 0xdd) ++ replicate 128 0)
+
+pub layout-found-wide : findRow 128 threeWideRows 0x1011121314151617 ≡ At 128
+unfolding findRow firstRow hasSerial beAt
+layout-found-wide = refl
+
+pub layout-empty-wide : findEmpty 128 threeWideRows ≡ At 256
+unfolding findEmpty firstRow
+layout-empty-wide = refl
 
 -- what calls store: state, errors, next, d + 600, locked at and last use, each with numbers of its own
 abbrev pub storedNumbers : Row
@@ -84,19 +96,19 @@ storedNumbers =
     record {
       state = 0xa0;
       track = record {
-        rule = record { kind = 0xff; algorithm = 0xff; digits = 0xff };
+        scheme = record { kind = 0xff; algorithm = 0xff; digits = 0xff };
         period = 0xff;
         next = record { 0 = 0xb0b1b2b3b4b5b6b7 };
         offset = record { 0 = 0xc0c1 };
       };
       limit = 0xff;
       errors = 0xa6;
-      length = 0xff;
+      «key_length» = 0xff;
       serial = 0xff;
       wait = 0xff;
       expiry = record { 0 = 0xff };
-      locked = record { 0 = 0xd0d1d2d3d4d5d6d7 };
-      used = record { 0 = 0xe0e1e2e3e4e5e6e7 };
+      «locked_at» = record { 0 = 0xd0d1d2d3d4d5d6d7 };
+      «last_use» = record { 0 = 0xe0e1e2e3e4e5e6e7 };
     }
 
 abbrev pub storedHead : List ℕ

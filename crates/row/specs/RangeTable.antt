@@ -7,7 +7,7 @@ use mathlib.Core.List.{List, [], _∷_, _++_}
 use lib.ListN.{replicate}
 use Rattle.words.specs.Bytes.{beAt, beBytes, put}
 use Rattle.words.specs.Lists.{allZero}
-use Rattle.row.specs.Row.{rowAt, numberTests, numbersOk, zerosOk, wellFormed}
+use Rattle.row.specs.Row.{lastState, rowAt, numberTests, numbersOk, zerosOk, wellFormed}
 
 -- a well-formed row by its first eight bytes and `locked at`: serial 1, a key of one byte and zeros, next 0, d 0, wait 60, expiry 0, last use 0
 abbrev pub rowBy : List ℕ → ℕ → List ℕ
@@ -39,7 +39,7 @@ range row offset width within beyond = record { row = row; offset = offset; widt
 
 -- the row with another number at the offset is well formed
 abbrev pub formedWith : Range → ℕ → Bool
-formedWith c x = wellFormed (put (c .row) (c .offset) (beBytes (c .width) x)) 0
+formedWith c x = wellFormed lastState (put (c .row) (c .offset) (beBytes (c .width) x)) 0
 
 abbrev pub allFormed : Range → List ℕ → Bool
 allFormed c [] = true

@@ -1,22 +1,19 @@
--- The ways through the reading of a row.
+-- The tests of a row as the code makes them: of its numbers one after the other, and of its zeros as numbers.
 use Prim.Native.Nat.{ℕ, _+_, _-_, _≤_}
 use mathlib.Core.Path.{_≡_, refl, ap, sym, _∙_}
-use mathlib.Core.Bool.{Bool, true, false, not, _&&_}
+use mathlib.Core.Bool.{Bool, true, _&&_}
 use mathlib.Core.List.{List, [], _∷_, _++_}
 use native.Mathlib.Omega.{arith}
-use borrow.Author.Tests.{not-true, not-false}
 use lib.Dec.{eqb}
 use lib.ListN.{length, getD, take, drop, length-drop}
 use lib.Seq.{length-take-le, take-add, drop-at, drop-drop}
 use Rattle.words.specs.Bytes.{AreBytes, beAt, leAt, swapBytes}
 use Rattle.words.specs.Lists.{allZero}
-use Rattle.words.specs.ListsLaws.{and-true, and-assoc}
+use Rattle.words.specs.BoolLaws.{and-true, and-assoc}
 use Rattle.words.specs.SwapLaws.{swapped-same, zero-number}
-use Rattle.row.specs.declared.Row.{Row}
-use Rattle.row.specs.declared.reading.RowRead.the-variants.{Good, Damaged}
-use Rattle.row.specs.Row.{rowAt, keyAt, allOf, numbersOk, zerosOk, wellFormed}
-use Rattle.row.specs.RowLaws.{length-in-range}
-use Rattle.row.specs.Table.{readRow}
+use Rattle.row.specs.Row.{rowBytes, keyBytes, keyAt, allOf, zerosOk}
+
+-- ---- numbers
 
 -- the tests as they are made, one after the other
 abbrev inOrder : Bool → List Bool → Bool
@@ -35,47 +32,20 @@ pub all-made : (bs : List Bool) → allMade bs ≡ allOf bs
 all-made [] = refl
 all-made (b ∷ bs) = in-order b bs
 
-module _ (s : List ℕ) (at : ℕ) {r : Row} {b : Bool} (row : r ≡ rowAt s at) (test : b ≡ numbersOk r) where
-  pub out-of-range : not b ≡ true → false ≡ wellFormed s at
-  unfolding wellFormed
-  out-of-range t = let e : numbersOk (rowAt s at) ≡ false = rw (← row, ← test) (not-true b t) in rw e
-
-  in-range : not b ≡ false → numbersOk (rowAt s at) ≡ true
-  in-range t = rw (← row, ← test) (not-false b t)
-
-  pub key-within : not b ≡ false → getD s (at + 7) 0 ≤ 32
-  unfolding rowAt
-  key-within t = length-in-range (rowAt s at) (in-range t) .1
-
-  pub zeros-decide : {z : Bool} → not b ≡ false → z ≡ zerosOk s at → z ≡ wellFormed s at
-  unfolding wellFormed
-  zeros-decide t e = rw (in-range t) e
-
--- ---- what is read
-
-module _ (s : List ℕ) (at : ℕ) {b : Bool} (test : b ≡ wellFormed s at) where
-  pub read-damaged : not b ≡ true → Damaged ≡ readRow s at
-  unfolding readRow
-  read-damaged t = let e : wellFormed s at ≡ false = sym test ∙ not-true b t in rw e
-
-  pub read-good : {r : Row} → not b ≡ false → r ≡ rowAt s at → Good at r ≡ readRow s at
-  unfolding readRow
-  read-good t row = let e : wellFormed s at ≡ true = sym test ∙ not-false b t in rw (e, row)
-
 -- ---- zeros
 
 -- the bytes behind the key
-behind-key : (s : List ℕ) (at n : ℕ) → n ≤ 32 → at + 48 ≤ length s → take (at + 48 - (at + 16 + n)) (drop (at + 16 + n) s) ≡ drop n (keyAt s at)
+behind-key : (s : List ℕ) (at n : ℕ) → n ≤ keyBytes → at + 48 ≤ length s → take (at + 48 - (at + 16 + n)) (drop (at + 16 + n) s) ≡ drop n (keyAt s at)
 behind-key s at n h room =
-    let e : 32 ≡ n + (32 - n) = omega arith in
-    let m : at + 48 - (at + 16 + n) ≡ 32 - n = omega arith in
+    let e : keyBytes ≡ n + (keyBytes - n) = omega arith in
+    let m : at + 48 - (at + 16 + n) ≡ keyBytes - n = omega arith in
     let l : length (take n (drop (at + 16) s)) ≡ n = length-take-le n (drop (at + 16) s) (rw length-drop (omega arith)) in
-    let whole : keyAt s at ≡ take n (drop (at + 16) s) ++ take (32 - n) (drop n (drop (at + 16) s)) =
-    ap (λ (k : ℕ). take k (drop (at + 16) s)) e ∙ take-add n (32 - n) (drop (at + 16) s) in
-    let rest = drop-at (take n (drop (at + 16) s)) (take (32 - n) (drop n (drop (at + 16) s))) n l in
+    let whole : keyAt s at ≡ take n (drop (at + 16) s) ++ take (keyBytes - n) (drop n (drop (at + 16) s)) =
+    ap (λ (k : ℕ). take k (drop (at + 16) s)) e ∙ take-add n (keyBytes - n) (drop (at + 16) s) in
+    let rest = drop-at (take n (drop (at + 16) s)) (take (keyBytes - n) (drop n (drop (at + 16) s))) n l in
     rw (m, whole, rest, drop-drop n (at + 16) s)
 
-pub zeros-read : (s : List ℕ) (at : ℕ) {behind : Bool} {gap spare : ℕ} → AreBytes s → at + 96 ≤ length s → getD s (at + 7) 0 ≤ 32
+pub zeros-read : (s : List ℕ) (at : ℕ) {behind : Bool} {gap spare : ℕ} → AreBytes s → at + rowBytes ≤ length s → getD s (at + 7) 0 ≤ keyBytes
     → behind ≡ allZero (take (at + 48 - (at + 16 + getD s (at + 7) 0)) (drop (at + 16 + getD s (at + 7) 0) s))
     → gap ≡ beAt 2 s (at + 58)
     → spare ≡ leAt 8 s (at + 88)

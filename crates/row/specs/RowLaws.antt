@@ -1,24 +1,38 @@
--- Laws of a row: its bytes are the render of its numbers and its key, and what well-formed gives.
-use Prim.Native.Nat.{ℕ, zero, suc, _+_, _*_, _^_, _≤_, _<_}
+-- Laws of a row: its bytes are the render of its numbers and its key.
+use Prim.Native.Nat.{ℕ, zero, suc, _+_, _^_, _≤_, _<_}
 use mathlib.Core.Path.{_≡_, refl, sym, ap, ap₂, _∙_}
-use mathlib.Core.Logic.{_⊎_, inl, inr}
-use mathlib.Core.Bool.{Bool, true, _&&_, _||_, cond}
+use mathlib.Core.Bool.{true, _&&_}
 use mathlib.Core.List.{List, [], _∷_, _++_, append-assoc}
 use native.Mathlib.Nat.{add-zero, add-suc, zero-add}
 use native.Mathlib.Omega.{arith}
-use borrow.Author.Tests.{eqb-true, leb-true, eq-eqb}
-use lib.Dec.{eqb, leb, ltb}
-use lib.ListN.{length, getD, take, drop, replicate, length-drop}
+use borrow.Author.Tests.{eqb-true}
+use lib.Dec.{eqb}
+use lib.ListN.{length, length-append, getD, take, drop, replicate, length-drop, take-append-drop}
 use lib.Seq.{length-take-le, drop-cons, take-add, take-at, drop-at, drop-drop, drop-append-seam, getD-drop}
 use Rattle.words.specs.Bytes.{AreBytes, beAt, beBytes}
 use Rattle.words.specs.BytesLaws.{length-beBytes, beAt-agree, beAt-beBytes, beBytes-beAt}
 use Rattle.words.specs.Lists.{allZero}
-use Rattle.words.specs.ListsLaws.{by-test}
-use Rattle.words.specs.Tables.{and-left, and-right}
-use Rattle.window.specs.declared.Track.{Track}
-use Rattle.window.specs.Window.{timeToken, farthest, Sound}
+use Rattle.words.specs.BoolLaws.{and-left, and-right}
 use Rattle.row.specs.declared.Row.{Row}
-use Rattle.row.specs.Row.{rowAt, keyAt, firstBytes, beforeKey, stepBytes, timeBytes, render, isTime, periodOk, nextOk, offsetOk, trackOk, allOf, numberTests, numbersOk, zerosOk, wellFormed}
+use Rattle.row.specs.Row.{rowBytes, keyBytes, rowAt, keyAt, firstBytes, beforeKey, stepBytes, timeBytes, render, numbersOk, zerosOk, wellFormed}
+
+-- ---- the lengths of its parts
+
+pub length-beforeKey : (r : Row) → length (beforeKey r) ≡ 16
+unfolding beforeKey beBytes
+length-beforeKey r = refl
+
+pub length-stepBytes : (r : Row) → length (stepBytes r) ≡ 12
+unfolding stepBytes beBytes
+length-stepBytes r = refl
+
+pub length-timeBytes : (r : Row) → length (timeBytes r) ≡ 36
+unfolding timeBytes beBytes
+length-timeBytes r = refl
+
+pub length-render : (r : Row) (key : List ℕ) → length key ≡ keyBytes → length (render r key) ≡ rowBytes
+unfolding render
+length-render r key l = rw (length-append, length-beforeKey r, length-append, l, length-append, length-stepBytes r, length-timeBytes r)
 
 -- ---- the bytes of a row
 
@@ -33,6 +47,10 @@ bytes-from (suc n) i s at h =
     let l : at + i < length s = omega arith in
     rw (drop-cons s (at + i) 0, ← add-suc at i) (ap (λ (t : List ℕ). getD s (at + i) 0 ∷ t) (bytes-from n (suc i) s at (omega arith)))
 
+-- a table is what stands before a row, the row, and what stands behind it
+pub row-whole : (s : List ℕ) (at : ℕ) → s ≡ take at s ++ (take rowBytes (drop at s) ++ drop (at + rowBytes) s)
+row-whole s at = sym (rw (← drop-drop rowBytes at s, take-append-drop rowBytes (drop at s)) (take-append-drop at s))
+
 -- two parts side by side
 beside : (s : List ℕ) {a b : List ℕ} (n m at mid : ℕ) → a ≡ take n (drop at s) → b ≡ take m (drop mid s) → at + n ≡ mid → a ++ b ≡ take (n + m) (drop at s)
 beside s n m at mid p q e = ap₂ _++_ p q ∙ rw (← e, ← drop-drop n at s) (sym (take-add n m (drop at s)))
@@ -41,19 +59,19 @@ zeros-are : (l : List ℕ) → allZero l ≡ true → replicate (length l) 0 ≡
 unfolding allZero
 zeros-are [] t = refl
 zeros-are (x ∷ l) t =
-    ap₂ (λ (y : ℕ) (u : List ℕ). y ∷ u) (sym (eqb-true x 0 (and-left (eqb x 0) (allZero l) t))) (zeros-are l (and-right (eqb x 0) (allZero l) t))
+    ap₂ (λ (y : ℕ) (u : List ℕ). y ∷ u) (sym (eqb-true x 0 (and-left _ _ t))) (zeros-are l (and-right (eqb x 0) _ t))
 
 zero-part : (k : ℕ) (s : List ℕ) (at : ℕ) → at + k ≤ length s → allZero (take k (drop at s)) ≡ true → replicate k 0 ≡ take k (drop at s)
 zero-part k s at h t =
     let l : length (take k (drop at s)) ≡ k = length-take-le k (drop at s) (rw length-drop (omega arith)) in
     rw l at (zeros-are (take k (drop at s)) t)
 
-module _ (s : List ℕ) (at : ℕ) (bytes : AreBytes s) (room : at + 96 ≤ length s) where
+module _ (s : List ℕ) (at : ℕ) (bytes : AreBytes s) (room : at + rowBytes ≤ length s) where
   before-parse : beforeKey (rowAt s at) ≡ take 16 (drop (at + 0) s)
   unfolding beforeKey rowAt
   before-parse = beside s 8 8 (at + 0) (at + 8) (bytes-from 8 0 s at (omega arith)) (beBytes-beAt 8 s (at + 8) bytes (omega arith)) (omega arith)
 
-  number : (k n : ℕ) → n + k ≤ 96 → beBytes k (beAt k s (at + n)) ≡ take k (drop (at + n) s)
+  number : (k n : ℕ) → n + k ≤ rowBytes → beBytes k (beAt k s (at + n)) ≡ take k (drop (at + n) s)
   number k n h = beBytes-beAt k s (at + n) bytes (omega arith)
 
   steps-parse : allZero (take 2 (drop (at + 58) s)) ≡ true → stepBytes (rowAt s at) ≡ take 12 (drop (at + 48) s)
@@ -75,17 +93,17 @@ module _ (s : List ℕ) (at : ℕ) (bytes : AreBytes s) (room : at + 96 ≤ leng
       (omega arith)
 
   -- a well-formed row's bytes are the render of its numbers and its key
-  pub render-parse : wellFormed s at ≡ true → render (rowAt s at) (keyAt s at) ≡ take 96 (drop at s)
+  pub render-parse : (highest : ℕ) → wellFormed highest s at ≡ true → render (rowAt s at) (keyAt s at) ≡ take rowBytes (drop at s)
   unfolding render wellFormed zerosOk
-  render-parse ok =
-      let zeros = and-right (numbersOk (rowAt s at)) (zerosOk s at) ok in
+  render-parse highest ok =
+      let zeros = and-right (numbersOk highest (rowAt s at)) _ ok in
       let key = allZero (drop (getD s (at + 7) 0) (keyAt s at)) in
       let gap = allZero (take 2 (drop (at + 58) s)) in
       let spare = allZero (take 8 (drop (at + 88) s)) in
-      let g = and-right key gap (and-left (key && gap) spare zeros) in
-      let p = and-right (key && gap) spare zeros in
+      let g = and-right key _ (and-left _ _ zeros) in
+      let p = and-right (key && gap) _ zeros in
       let behind = beside s 12 36 (at + 48) (at + 60) (steps-parse g) (times-parse p) (omega arith) in
-      rw add-zero at (beside s 16 80 (at + 0) (at + 16) before-parse (beside s 32 48 (at + 16) (at + 48) refl behind (omega arith)) (omega arith))
+      rw add-zero at (beside s 16 80 (at + 0) (at + 16) before-parse (beside s keyBytes 48 (at + 16) (at + 48) refl behind (omega arith)) (omega arith))
 
 -- ---- what is read of a rendered row
 
@@ -96,8 +114,8 @@ pub record InWidths (r : Row) : Type 0 where
   pub offset : r .track .offset .0 < 2 ^ 16
   pub wait : r .wait < 2 ^ 32
   pub expiry : r .expiry .0 < 2 ^ 64
-  pub locked : r .locked .0 < 2 ^ 64
-  pub used : r .used .0 < 2 ^ 64
+  pub «locked_at» : r .«locked_at» .0 < 2 ^ 64
+  pub «last_use» : r .«last_use» .0 < 2 ^ 64
 
 -- behind a part stands what follows it
 following : (s : List ℕ) {q : List ℕ} (f : List ℕ) (at n mid : ℕ) → drop at s ≡ f ++ q → length f ≡ n → at + n ≡ mid → drop mid s ≡ q
@@ -109,7 +127,7 @@ number-here s q k at x d h =
     ∙ beAt-beBytes k [] q 0 x refl h
 
 -- rendered, a row is read as it was
-module _ (s : List ℕ) (at : ℕ) (r : Row) (key rest : List ℕ) (stands : drop at s ≡ render r key ++ rest) (long : length key ≡ 32) where
+module _ (s : List ℕ) (at : ℕ) (r : Row) (key rest : List ℕ) (stands : drop at s ≡ render r key ++ rest) (long : length key ≡ keyBytes) where
   behindKey : List ℕ
   behindKey = stepBytes r ++ (timeBytes r ++ rest)
 
@@ -126,11 +144,11 @@ module _ (s : List ℕ) (at : ℕ) (r : Row) (key rest : List ℕ) (stands : dro
   key-here = following s (beBytes 8 (r .serial)) (at + 8) 8 (at + 16) serial-here (length-beBytes 8 (r .serial)) (omega arith)
 
   pub key-parsed : keyAt s at ≡ key
-  key-parsed = rw key-here (take-at key behindKey 32 long)
+  key-parsed = rw key-here (take-at key behindKey keyBytes long)
 
   next-here : drop (at + 48) s ≡ beBytes 8 (r .track .next .0) ++ (beBytes 2 (r .track .offset .0) ++ (replicate 2 0 ++ (timeBytes r ++ rest)))
   unfolding behindKey stepBytes
-  next-here = following s key (at + 16) 32 (at + 48) key-here long (omega arith) ∙ simp append-assoc
+  next-here = following s key (at + 16) keyBytes (at + 48) key-here long (omega arith) ∙ simp append-assoc
 
   offset-here : drop (at + 56) s ≡ beBytes 2 (r .track .offset .0) ++ (replicate 2 0 ++ (timeBytes r ++ rest))
   offset-here = following s (beBytes 8 (r .track .next .0)) (at + 48) 8 (at + 56) next-here (length-beBytes 8 (r .track .next .0)) (omega arith)
@@ -138,18 +156,18 @@ module _ (s : List ℕ) (at : ℕ) (r : Row) (key rest : List ℕ) (stands : dro
   gap-here : drop (at + 58) s ≡ replicate 2 0 ++ (timeBytes r ++ rest)
   gap-here = following s (beBytes 2 (r .track .offset .0)) (at + 56) 2 (at + 58) offset-here (length-beBytes 2 (r .track .offset .0)) (omega arith)
 
-  wait-here : drop (at + 60) s ≡ beBytes 4 (r .wait) ++ (beBytes 8 (r .expiry .0) ++ (beBytes 8 (r .locked .0) ++ (beBytes 8 (r .used .0) ++ (replicate 8 0 ++ rest))))
+  wait-here : drop (at + 60) s ≡ beBytes 4 (r .wait) ++ (beBytes 8 (r .expiry .0) ++ (beBytes 8 (r .«locked_at» .0) ++ (beBytes 8 (r .«last_use» .0) ++ (replicate 8 0 ++ rest))))
   unfolding timeBytes
   wait-here = following s (replicate 2 0) (at + 58) 2 (at + 60) gap-here refl (omega arith) ∙ simp append-assoc
 
-  expiry-here : drop (at + 64) s ≡ beBytes 8 (r .expiry .0) ++ (beBytes 8 (r .locked .0) ++ (beBytes 8 (r .used .0) ++ (replicate 8 0 ++ rest)))
+  expiry-here : drop (at + 64) s ≡ beBytes 8 (r .expiry .0) ++ (beBytes 8 (r .«locked_at» .0) ++ (beBytes 8 (r .«last_use» .0) ++ (replicate 8 0 ++ rest)))
   expiry-here = following s (beBytes 4 (r .wait)) (at + 60) 4 (at + 64) wait-here (length-beBytes 4 (r .wait)) (omega arith)
 
-  locked-here : drop (at + 72) s ≡ beBytes 8 (r .locked .0) ++ (beBytes 8 (r .used .0) ++ (replicate 8 0 ++ rest))
+  locked-here : drop (at + 72) s ≡ beBytes 8 (r .«locked_at» .0) ++ (beBytes 8 (r .«last_use» .0) ++ (replicate 8 0 ++ rest))
   locked-here = following s (beBytes 8 (r .expiry .0)) (at + 64) 8 (at + 72) expiry-here (length-beBytes 8 (r .expiry .0)) (omega arith)
 
-  used-here : drop (at + 80) s ≡ beBytes 8 (r .used .0) ++ (replicate 8 0 ++ rest)
-  used-here = following s (beBytes 8 (r .locked .0)) (at + 72) 8 (at + 80) locked-here (length-beBytes 8 (r .locked .0)) (omega arith)
+  used-here : drop (at + 80) s ≡ beBytes 8 (r .«last_use» .0) ++ (replicate 8 0 ++ rest)
+  used-here = following s (beBytes 8 (r .«locked_at» .0)) (at + 72) 8 (at + 80) locked-here (length-beBytes 8 (r .«locked_at» .0)) (omega arith)
 
   byte-here : (i : ℕ) → getD s (at + i) 0 ≡ getD (beforeKey r ++ (key ++ behindKey)) i 0
   byte-here i = sym (getD-drop at s i 0) ∙ rw before-here
@@ -171,80 +189,14 @@ module _ (s : List ℕ) (at : ℕ) (r : Row) (key rest : List ℕ) (stands : dro
         number-here s _ 2 (at + 56) (r .track .offset .0) offset-here (w .offset),
         number-here s _ 4 (at + 60) (r .wait) wait-here (w .wait),
         number-here s _ 8 (at + 64) (r .expiry .0) expiry-here (w .expiry),
-        number-here s _ 8 (at + 72) (r .locked .0) locked-here (w .locked),
-        number-here s _ 8 (at + 80) (r .used .0) used-here (w .used),
+        number-here s _ 8 (at + 72) (r .«locked_at» .0) locked-here (w .«locked_at»),
+        number-here s _ 8 (at + 80) (r .«last_use» .0) used-here (w .«last_use»),
       )
 
 -- in a table
-pub parse-render : (a b : List ℕ) (r : Row) (key : List ℕ) → length key ≡ 32 → InWidths r
+pub parse-render : (a b : List ℕ) (r : Row) (key : List ℕ) → length key ≡ keyBytes → InWidths r
     → (rowAt (a ++ (render r key ++ b)) (length a) ≡ r) × (keyAt (a ++ (render r key ++ b)) (length a) ≡ key)
 parse-render a b r key long w =
     let s = a ++ (render r key ++ b) in
     let stands = drop-append-seam a (render r key ++ b) in
     (numbers-parsed s (length a) r key b stands long w, key-parsed s (length a) r key b stands long)
-
--- ---- what the tests of the numbers give
-
-test-at : (bs : List Bool) (i : ℕ) → allOf bs ≡ true → getD bs i true ≡ true
-test-at [] i t = refl
-test-at (b ∷ bs) zero t = and-left b (allOf bs) t
-test-at (b ∷ bs) (suc i) t = test-at bs i (and-right b (allOf bs) t)
-
-within : (low x high : ℕ) → leb low x && leb x high ≡ true → (low ≤ x) × (x ≤ high)
-within low x high t = (leb-true low x (and-left (leb low x) (leb x high) t), leb-true x high (and-right (leb low x) (leb x high) t))
-
-module _ (k : Track) where
-  period-above : periodOk k ≡ true → k .rule .kind ≡ timeToken → 0 < k .period
-  period-above t e = within 1 (k .period) 60 (rw (eq-eqb (k .rule .kind) timeToken e) at t) .0
-
-  next-below : nextOk k ≡ true → k .next .0 ≤ 2 ^ 40 + farthest
-  next-below t =
-      let l = leb-true (k .next .0) (cond (isTime k) (2 ^ 40 + farthest) (2 ^ 32)) t in
-      by-test (isTime k) (λ p. rw p at l) (λ p. let m : k .next .0 ≤ 2 ^ 32 = rw p at l in omega arith)
-
-  offset-below : offsetOk k ≡ true → k .offset .0 ≤ 2 * farthest
-  offset-below t =
-      by-test (isTime k) (λ p. leb-true (k .offset .0) (2 * farthest) (rw p at t))
-      (λ p. let e = eqb-true (k .offset .0) farthest (rw p at t) in omega arith)
-
-  ranges-sound : periodOk k ≡ true → nextOk k ≡ true → offsetOk k ≡ true → (clock : ℕ) → clock < 2 ^ 40 → Sound k clock
-  ranges-sound p n o clock h = record { divided = period-above p; timely = h; counted = next-below n; within = offset-below o }
-
-  -- what a check asks of a token
-  pub track-sound : trackOk k ≡ true → (clock : ℕ) → clock < 2 ^ 40 → Sound k clock
-  unfolding trackOk
-  track-sound ok =
-      let p : periodOk k ≡ true = search (and-left, and-right) depth 6 in
-      let n : nextOk k ≡ true = search (and-left, and-right) depth 6 in
-      let o : offsetOk k ≡ true = search (and-left, and-right) depth 6 in
-      ranges-sound p n o
-
-module _ (r : Row) (ok : numbersOk r ≡ true) where
-  passed : (i : ℕ) → getD (numberTests r) i true ≡ true
-  unfolding numbersOk
-  passed i = test-at (numberTests r) i ok
-
-  pub known-algorithm : (r .track .rule .algorithm ≡ 3) ⊎ (r .track .rule .algorithm ≡ 4)
-  unfolding numberTests
-  known-algorithm = either (r .track .rule .algorithm) (passed 2)
-    where
-      either : (a : ℕ) → eqb a 3 || eqb a 4 ≡ true → (a ≡ 3) ⊎ (a ≡ 4)
-      either a t = by-test (eqb a 3) (λ p. inl (eqb-true a 3 p)) (λ p. inr (eqb-true a 4 (rw p at t)))
-
-  pub digits-in-range : (6 ≤ r .track .rule .digits) × (r .track .rule .digits ≤ 10)
-  unfolding numberTests
-  digits-in-range = within 6 (r .track .rule .digits) 10 (passed 3)
-
-  pub length-in-range : (16 ≤ r .length) × (r .length ≤ 32)
-  unfolding numberTests
-  length-in-range = within 16 (r .length) 32 (passed 6)
-
-  -- `locked at` is 0 unless the state is 3
-  pub unlocked-elsewhere : eqb (r .state) 3 || eqb (r .locked .0) 0 ≡ true
-  unfolding numberTests
-  unlocked-elsewhere = and-right (ltb (r .locked .0) (2 ^ 40)) (eqb (r .state) 3 || eqb (r .locked .0) 0) (passed 11)
-
-  -- what a check asks of the row's track
-  pub row-sound : (clock : ℕ) → clock < 2 ^ 40 → Sound (r .track) clock
-  unfolding numberTests
-  row-sound clock h = ranges-sound (r .track) (passed 4) (passed 7) (passed 8) clock h

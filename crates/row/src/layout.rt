@@ -17,7 +17,7 @@ pub(crate) const LIMIT: usize = 5;
 
 pub(crate) const ERRORS: usize = 6;
 
-pub(crate) const LENGTH: usize = 7;
+pub(crate) const KEY_LENGTH: usize = 7;
 
 pub(crate) const SERIAL: usize = 8;
 
@@ -33,8 +33,8 @@ pub(crate) const WAIT: usize = 60;
 
 pub(crate) const EXPIRY: usize = 64;
 
-pub(crate) const LOCKED: usize = 72;
+pub(crate) const LOCKED_AT: usize = 72;
 
-pub(crate) const USED: usize = 80;
+pub(crate) const LAST_USE: usize = 80;
 
 pub(crate) const SPARE: usize = 88;

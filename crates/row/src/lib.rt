@@ -13,10 +13,11 @@ pub use layout::KEY_BYTES;
 pub use layout::ROW_BYTES;
 pub use ranges::numbers_ok;
 pub use ranges::track_ok;
+pub use reading::Located;
 pub use reading::Place;
-pub use reading::RowRead;
-pub use reading::read_row;
+pub use reading::locate;
 pub use states::EMPTY;
+pub use states::LAST_STATE;
 pub use states::LOCKED_BY_ERRORS;
 pub use states::LOCKED_BY_HAND;
 pub use states::NOT_ACTIVATED;
@@ -30,16 +31,16 @@ pub use storing::write_row;
 use window::Seconds;
 use window::Track;
 
-// The numbers of a row. The key stays in the table.
+// The numbers of a row. The key stays in the table. The track stands first: behind a single byte, every copy of it would have padding to carry.
 pub struct Row {
-    pub state: u8,
     pub track: Track,
+    pub state: u8,
     pub limit: u8,
     pub errors: u8,
-    pub length: u8,
+    pub key_length: u8,
     pub serial: u64,
     pub wait: u32,
     pub expiry: Seconds,
-    pub locked: Seconds,
-    pub used: Seconds,
+    pub locked_at: Seconds,
+    pub last_use: Seconds,
 }

@@ -2,7 +2,6 @@
 use crate::Row;
 use crate::layout::KEY_BYTES;
 use crate::states::LOCKED_BY_ERRORS;
-use crate::states::VOID;
 use otp::SM3;
 use otp::SM4;
 use window::CLOCKS;
@@ -11,35 +10,42 @@ use window::FARTHEST;
 use window::TIME_TOKEN;
 use window::Track;
 ghost use mathlib.Core.Path.{_≡_};
-ghost use mathlib.Core.Bool.{cond, _&&_};
-ghost use Prim.Native.Nat.{_+_, _*_, _^_};
-ghost use lib.Dec.{eqb, leb};
-ghost use Rattle.row.specs.Row.{trackOk, numbersOk};
+ghost use Rattle.row.specs.Row.{kindOk, periodOk, nextOk, offsetOk, trackOk, numbersOk};
 
-fn period_ok(timed: bool, period: u8) -> bool
-    ensures { λ r. ⌜ r ≡ cond timed (leb 1 period && leb period 60) (eqb period 0) ⌝ }
+// A time token or an event token.
+fn kind_ok(track: Track) -> bool
+    ensures { λ r. ⌜ r ≡ kindOk track ⌝ }
 {
-    if timed {
-        (1 <= period) & (period <= 60)
+    track.scheme.kind <= 1
+}
+
+fn period_ok(track: Track) -> bool
+    ensures { λ r. ⌜ r ≡ periodOk track ⌝ }
+{
+    if track.scheme.kind == TIME_TOKEN {
+        (1 <= track.period) & (track.period <= 60)
     } else {
-        period == 0
+        track.period == 0
     }
 }
 
-// The largest first unused step.
-fn last_next(timed: bool) -> u64
-    ensures { λ r. ⌜ r ≡ cond timed (2 ^ 40 + 600) (2 ^ 32) ⌝ }
+fn next_ok(track: Track) -> bool
+    ensures { λ r. ⌜ r ≡ nextOk track ⌝ }
 {
-    if timed { CLOCKS + FARTHEST } else { COUNTS }
+    if track.scheme.kind == TIME_TOKEN {
+        track.next.0 <= CLOCKS + FARTHEST
+    } else {
+        track.next.0 <= COUNTS
+    }
 }
 
-fn offset_ok(timed: bool, offset: u64) -> bool
-    ensures { λ r. ⌜ r ≡ cond timed (leb offset (2 * 600)) (eqb offset 600) ⌝ }
+fn offset_ok(track: Track) -> bool
+    ensures { λ r. ⌜ r ≡ offsetOk track ⌝ }
 {
-    if timed {
-        offset <= 2 * FARTHEST
+    if track.scheme.kind == TIME_TOKEN {
+        track.offset.0 as u64 <= 2 * FARTHEST
     } else {
-        offset == FARTHEST
+        track.offset.0 as u64 == FARTHEST
     }
 }
 
@@ -47,30 +53,26 @@ fn offset_ok(timed: bool, offset: u64) -> bool
 pub fn track_ok(track: Track) -> bool
     ensures { λ r. ⌜ r ≡ trackOk track ⌝ }
 {
-    let timed = track.rule.kind == TIME_TOKEN;
-    (track.rule.kind <= 1)
-        & period_ok(timed, track.period)
-        & (track.next.0 <= last_next(timed))
-        & offset_ok(timed, track.offset.0 as u64)
+    kind_ok(track) & period_ok(track) & next_ok(track) & offset_ok(track)
 }
 
-// Whether the numbers are in Part 4's ranges, in its order.
-pub fn numbers_ok(row: Row) -> bool
-    ensures { λ r. ⌜ r ≡ numbersOk row ⌝ }
+// Whether the numbers are in Part 4's ranges, in its order, with the highest state of the table.
+pub fn numbers_ok(highest: u8, row: Row) -> bool
+    ensures { λ r. ⌜ r ≡ numbersOk highest row ⌝ }
 {
-    let rule = row.track.rule;
-    let timed = rule.kind == TIME_TOKEN;
-    (row.state <= VOID)
-        & (rule.kind <= 1)
-        & ((rule.algorithm == SM3) | (rule.algorithm == SM4))
-        & ((6 <= rule.digits) & (rule.digits <= 10))
-        & period_ok(timed, row.track.period)
+    let track = row.track;
+    let scheme = track.scheme;
+    (row.state <= highest)
+        & kind_ok(track)
+        & ((scheme.algorithm == SM3) | (scheme.algorithm == SM4))
+        & ((6 <= scheme.digits) & (scheme.digits <= 10))
+        & period_ok(track)
         & ((1 <= row.limit) & (row.limit <= 10))
-        & ((16 <= row.length) & (row.length as usize <= KEY_BYTES))
-        & (row.track.next.0 <= last_next(timed))
-        & offset_ok(timed, row.track.offset.0 as u64)
+        & ((16 <= row.key_length) & (row.key_length as usize <= KEY_BYTES))
+        & next_ok(track)
+        & offset_ok(track)
         & ((60 <= row.wait) & (row.wait <= 86400))
         & (row.expiry.0 <= CLOCKS)
-        & ((row.locked.0 < CLOCKS) & ((row.state == LOCKED_BY_ERRORS) | (row.locked.0 == 0)))
-        & (row.used.0 < CLOCKS)
+        & ((row.locked_at.0 < CLOCKS) & ((row.state == LOCKED_BY_ERRORS) | (row.locked_at.0 == 0)))
+        & (row.last_use.0 < CLOCKS)
 }

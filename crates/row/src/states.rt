@@ -12,3 +12,6 @@ pub const LOCKED_BY_HAND: u8 = 4;
 pub const SUSPENDED: u8 = 5;
 
 pub const VOID: u8 = 6;
+
+// The highest state of a table.
+pub const LAST_STATE: u8 = VOID;

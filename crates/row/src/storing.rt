@@ -6,10 +6,11 @@ use crate::layout::ERRORS;
 use crate::layout::EXPIRY;
 use crate::layout::GAP;
 use crate::layout::KEY;
+use crate::layout::KEY_LENGTH;
 use crate::layout::KIND;
-use crate::layout::LENGTH;
+use crate::layout::LAST_USE;
 use crate::layout::LIMIT;
-use crate::layout::LOCKED;
+use crate::layout::LOCKED_AT;
 use crate::layout::NEXT;
 use crate::layout::OFFSET;
 use crate::layout::PERIOD;
@@ -17,7 +18,6 @@ use crate::layout::ROW_BYTES;
 use crate::layout::SERIAL;
 use crate::layout::SPARE;
 use crate::layout::STATE;
-use crate::layout::USED;
 use crate::layout::WAIT;
 use bytes::copy;
 use words::bytes::be_at;
@@ -27,7 +27,7 @@ ghost use mathlib.Core.Path.{_≡_};
 ghost use Prim.Native.Nat.{_+_, _≤_, _<_};
 ghost use lib.ListN.{length, set, replicate};
 ghost use Rattle.words.specs.Bytes.{put, putBe};
-ghost use Rattle.row.specs.Row.{beforeKey, stepBytes, timeBytes};
+ghost use Rattle.row.specs.Row.{rowBytes, keyBytes, beforeKey, stepBytes, timeBytes};
 ghost use Rattle.row.specs.Table.{stepsStored, readingsStored, storeRow, wipeKey, zeroFilled, writeRow};
 
 // Stores a byte, unless it is there: a call that changes no number writes nothing.
@@ -61,7 +61,7 @@ fn renew_eight(table: &mut [u8], at: usize, x: u64)
 }
 
 fn store_steps(table: &mut [u8], at: usize, row: Row)
-    requires { ⌜ at + 96 ≤ length (now table) ⌝ }
+    requires { ⌜ at + rowBytes ≤ length (now table) ⌝ }
     ensures { λ _. ⌜ now (table .exit) ≡ stepsStored (now (table .entry)) at row ⌝ }
 {
     renew_eight(table, at + NEXT, row.track.next.0);
@@ -69,16 +69,16 @@ fn store_steps(table: &mut [u8], at: usize, row: Row)
 }
 
 fn store_readings(table: &mut [u8], at: usize, row: Row)
-    requires { ⌜ at + 96 ≤ length (now table) ⌝ }
+    requires { ⌜ at + rowBytes ≤ length (now table) ⌝ }
     ensures { λ _. ⌜ now (table .exit) ≡ readingsStored (now (table .entry)) at row ⌝ }
 {
-    renew_eight(table, at + LOCKED, row.locked.0);
-    renew_eight(table, at + USED, row.used.0);
+    renew_eight(table, at + LOCKED_AT, row.locked_at.0);
+    renew_eight(table, at + LAST_USE, row.last_use.0);
 }
 
 // Stores the numbers that calls change, where they did.
 pub fn store_row(table: &mut [u8], at: usize, row: Row)
-    requires { ⌜ at + 96 ≤ length (now table) ⌝ }
+    requires { ⌜ at + rowBytes ≤ length (now table) ⌝ }
     ensures { λ _. ⌜ now (table .exit) ≡ storeRow (now (table .entry)) at row ⌝ }
 {
     renew_byte(table, at + STATE, row.state);
@@ -100,7 +100,7 @@ pub fn clear(part: &mut [u8])
 
 // Sets the key to zeros.
 pub fn wipe_key(table: &mut [u8], at: usize)
-    requires { ⌜ at + 96 ≤ length (now table) ⌝ }
+    requires { ⌜ at + rowBytes ≤ length (now table) ⌝ }
     ensures { λ _. ⌜ now (table .exit) ≡ wipeKey (now (table .entry)) at ⌝ }
 {
     let key = at + KEY;
@@ -110,25 +110,25 @@ pub fn wipe_key(table: &mut [u8], at: usize)
 
 // Writes the 16 bytes before the key.
 fn write_head(table: &mut [u8], at: usize, row: Row)
-    requires { ⌜ at + 96 ≤ length (now table) ⌝ }
+    requires { ⌜ at + rowBytes ≤ length (now table) ⌝ }
     ensures { λ _. ⌜ now (table .exit) ≡ put (now (table .entry)) at (beforeKey row) ⌝ }
 {
-    let rule = row.track.rule;
+    let scheme = row.track.scheme;
     table[at + STATE] = row.state;
-    table[at + KIND] = rule.kind;
-    table[at + ALGORITHM] = rule.algorithm;
-    table[at + DIGITS] = rule.digits;
+    table[at + KIND] = scheme.kind;
+    table[at + ALGORITHM] = scheme.algorithm;
+    table[at + DIGITS] = scheme.digits;
     table[at + PERIOD] = row.track.period;
     table[at + LIMIT] = row.limit;
     table[at + ERRORS] = row.errors;
-    table[at + LENGTH] = row.length;
+    table[at + KEY_LENGTH] = row.key_length;
     put_be(table, at + SERIAL, 8, row.serial);
 }
 
 // Writes the key, and zeros behind it.
 fn write_key(table: &mut [u8], at: usize, key: &[u8])
-    requires { ⌜ at + 96 ≤ length (now table) ⌝ }
-    requires { ⌜ length (now key) ≤ 32 ⌝ }
+    requires { ⌜ at + rowBytes ≤ length (now table) ⌝ }
+    requires { ⌜ length (now key) ≤ keyBytes ⌝ }
     ensures { λ _. ⌜ now (table .exit) ≡ put (now (table .entry)) (at + 16) (zeroFilled (now (key .entry))) ⌝ }
 {
     let start = at + KEY;
@@ -140,7 +140,7 @@ fn write_key(table: &mut [u8], at: usize, key: &[u8])
 
 // Writes the first unused step, the offset and the two zeros behind it.
 fn write_steps(table: &mut [u8], at: usize, row: Row)
-    requires { ⌜ at + 96 ≤ length (now table) ⌝ }
+    requires { ⌜ at + rowBytes ≤ length (now table) ⌝ }
     ensures { λ _. ⌜ now (table .exit) ≡ put (now (table .entry)) (at + 48) (stepBytes row) ⌝ }
 {
     let gap = at + GAP;
@@ -151,7 +151,7 @@ fn write_steps(table: &mut [u8], at: usize, row: Row)
 
 // Writes the wait, the clock readings and the eight zeros at the end.
 fn write_times(table: &mut [u8], at: usize, row: Row)
-    requires { ⌜ at + 96 ≤ length (now table) ⌝ }
+    requires { ⌜ at + rowBytes ≤ length (now table) ⌝ }
     ensures { λ _. ⌜ now (table .exit) ≡ put (now (table .entry)) (at + 60) (timeBytes row) ⌝ }
 {
     let spare = at + SPARE;
@@ -162,10 +162,10 @@ fn write_times(table: &mut [u8], at: usize, row: Row)
     clear(&mut table[spare..end]);
 }
 
-// Writes all 96 bytes of a row, with zeros behind its key.
+// Writes all bytes of a row, with zeros behind its key.
 pub fn write_row(table: &mut [u8], at: usize, row: Row, key: &[u8])
-    requires { ⌜ at + 96 ≤ length (now table) ⌝ }
-    requires { ⌜ length (now key) ≤ 32 ⌝ }
+    requires { ⌜ at + rowBytes ≤ length (now table) ⌝ }
+    requires { ⌜ length (now key) ≤ keyBytes ⌝ }
     ensures { λ _. ⌜ now (table .exit) ≡ writeRow (now (table .entry)) at row (now (key .entry)) ⌝ }
 {
     write_head(table, at, row);

@@ -8,10 +8,10 @@ use borrow.Author.Tests.{ltb-true, ltb-false, leb-true, leb-false}
 use lib.Dec.{leb, ltb}
 use lib.ListN.{length, take, drop, length-drop}
 use lib.Seq.{take-add, take-all}
-use Rattle.words.specs.ListsLaws.{by-test}
-use Rattle.words.specs.Tables.{and-left, and-right}
+use Rattle.words.specs.BoolLaws.{by-test, and-left, and-right}
 use Rattle.window.specs.PasswordAt.{PasswordRule}
 use Rattle.script.specs.Script.{Stage, stageIn, Follows}
+use Rattle.script.specs.Sizes.{mostText, outputBytes, Sized}
 use Rattle.script.specs.ScriptLaws.{follows-none, follows-join}
 
 -- ---- parts of a piece
@@ -36,14 +36,6 @@ next-bytes piece at used = rw (rest-of piece at) (take-add at used piece)
 
 -- ---- what every loop keeps
 
--- the buffers' lengths, and the bounds of the pending line's and of the table's
-pub record Sized (line table out : List ℕ) (n rows : ℕ) : Type 0 where
-  pub size : length line ≡ 4096
-  pub cells : length table ≡ 24576
-  pub space : length out ≡ 114944
-  pub marked : n ≤ 4097
-  pub few : rows ≤ 256
-
 pub sized-more : {line table out line′ table′ out′ : List ℕ} {n n′ rows rows′ : ℕ} → Sized line table out n rows
     → length line′ ≡ length line → length table′ ≡ length table → length out′ ≡ length out → n′ ≤ 4097 → rows′ ≤ 256 → Sized line′ table′ out′ n′ rows′
 sized-more sized size cells space marked few =
@@ -56,8 +48,8 @@ module _ (passwords : PasswordRule) where
   pub record Filling (line₀ : List ℕ) (n : ℕ) (stage : Stage) (piece out₀ line table out : List ℕ) (pending : ℕ) (fresh : Bool) (rows at end : ℕ) : Type 0 where
     pub sized : Sized line table out pending rows
     pub within : at ≤ length piece
-    pub room : end ≤ 114944
-    pub begun : end ≤ 49408 * at
+    pub room : end ≤ outputBytes
+    pub begun : end ≤ mostText * at
     pub follows : Follows passwords line₀ n (take at piece) line pending stage (stageIn fresh rows table) out₀ 0 out end
 
   pub filling-begin : (line : List ℕ) (n : ℕ) (fresh : Bool) (rows : ℕ) (table piece out : List ℕ) → Sized line table out n rows
@@ -82,7 +74,7 @@ module _ (passwords : PasswordRule) where
 
     pub filling-more : {line′ table′ out′ : List ℕ} {used n′ : ℕ} {fresh′ : Bool} {rows′ end′ : ℕ} → ltb at (length piece) && leb end 65536 ≡ true
         → length line′ ≡ length line → length table′ ≡ length table → length out′ ≡ length out
-        → (used ≤ length (rest piece at)) × ((1 ≤ length (rest piece at) → 1 ≤ used) × ((n′ ≤ 4097) × ((rows′ ≤ 256) × (end′ ≤ end + 49408))))
+        → (used ≤ length (rest piece at)) × ((1 ≤ length (rest piece at) → 1 ≤ used) × ((n′ ≤ 4097) × ((rows′ ≤ 256) × (end′ ≤ end + mostText))))
         → Follows passwords line pending (take used (rest piece at)) line′ n′ (stageIn fresh rows table) (stageIn fresh′ rows′ table′) out end out′ end′
         → Filling line₀ n stage piece out₀ line′ table′ out′ n′ fresh′ rows′ (at + used) end′
     filling-more {used = used} t size cells space bounds f =

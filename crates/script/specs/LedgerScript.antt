@@ -29,7 +29,7 @@ unfoldable pub ledgerText : PasswordRule → ℕ → List Entry → List (List �
 ledgerText passwords rows history [] = []
 ledgerText passwords rows history (line ∷ lines) =
     cond (isTable line)
-    (tableText (tableOf rows history) ++ ledgerText passwords rows history lines)
+    (tableText (tableOf passwords rows history) ++ ledgerText passwords rows history lines)
     ((answerText (ledgerAnswer passwords rows history (callOf line)) ++ (lineFeed ∷ [])) ++ ledgerText passwords rows (ledgerHistory passwords rows history (callOf line)) lines)
 
 -- every input whose first line is a right `rows` line

@@ -11,13 +11,15 @@ use lib.Dec.{ltb, leb}
 use lib.ListN.{length, take, drop, getD, set, length-append, length-take, length-drop, length-set}
 use lib.Seq.{length-take-le, take-all, take-suc, take-suc-set, drop-drop}
 use Rattle.words.specs.Lists.{sameBytes}
-use Rattle.words.specs.ListsLaws.{by-test, and-true, and-false, same-lengths}
-use Rattle.text.specs.Text.{hexDigit, comma, decimalOf, bounded, numberOf}
+use Rattle.words.specs.ListsLaws.{same-lengths}
+use Rattle.words.specs.BoolLaws.{by-test, and-true, and-false, impossible}
+use Rattle.text.specs.Text.{hexDigit, comma, decimalOf, bounded, numberIn}
 use Rattle.text.specs.declared.numbers.Number.{Number}
 use Rattle.text.specs.TextLaws.{number-value}
 use Rattle.lines.specs.Lines.{lineFeed, Put}
 use Rattle.lines.specs.BufferLaws.{put-join}
 use Rattle.row.specs.Row.{rowBytes}
+use Rattle.script.specs.Sizes.{rowText}
 use Rattle.script.specs.Script.{hexText, rowsText, fewRows, rowsOf, orZero}
 
 -- ---- the line `rows,N`
@@ -30,7 +32,7 @@ unfolding bounded
 unread-rows none e = refl
 unread-rows (some n) e =
     by-test (ltb n (2 ^ 64))
-    (λ t. let h : Number.Value n ≡ Number.Bad = rw t at e in let z : _≡_ {A = ℕ} 0 1 = cc in absurd (omega arith))
+    (λ t. let h : Number.Value n ≡ Number.Bad = rw t at e in impossible (cc))
     (λ f. let l = ltb-false n (2 ^ 64) f in rw (lt-leb n 256 (omega arith), and-false (leb 1 n)))
 
 module _ (line : List ℕ) (fits : length line ≤ 4096) where
@@ -41,7 +43,7 @@ module _ (line : List ℕ) (fits : length line ≤ 4096) where
 
   pub rows-other : {right : Bool} → right ≡ sameBytes (take 5 line) rowsWord → not right ≡ true → 0 ≡ orZero (rowsOf line)
   unfolding rowsOf
-  rows-other {right = true} e n = let z : _≡_ {A = ℕ} 0 1 = cc in absurd (omega arith)
+  rows-other {right = true} e n = impossible (cc)
   rows-other {right = false} e n = rw (le-leb (length line) 4096 fits, ← e)
 
   module _ {right : Bool} (same : right ≡ sameBytes (take 5 line) rowsWord) (left : not right ≡ false) where
@@ -52,16 +54,16 @@ module _ (line : List ℕ) (fits : length line ≤ 4096) where
         rows-word : (b : Bool) → b ≡ sameBytes (take 5 line) rowsWord → not b ≡ false
             → cond (sameBytes (take 5 line) rowsWord) (fewRows (decimalOf (drop 5 line))) none ≡ fewRows (decimalOf (drop 5 line))
         rows-word true e n = rw (← e)
-        rows-word false e n = let z : _≡_ {A = ℕ} 0 1 = cc in absurd (omega arith)
+        rows-word false e n = impossible (cc)
 
     -- the number's digits, as the code takes them
     digits-are : take (length line - 5) (drop 5 line) ≡ drop 5 line
     digits-are = take-all (length line - 5) (drop 5 line) (let d = length-drop 5 line in omega arith)
 
-    pub rows-unread : {r : Number} → r ≡ numberOf (take (length line - 5) (drop 5 line)) → r ≡ Number.Bad → 0 ≡ orZero (rowsOf line)
+    pub rows-unread : {r : Number} → r ≡ numberIn (take (length line - 5) (drop 5 line)) → r ≡ Number.Bad → 0 ≡ orZero (rowsOf line)
     rows-unread e b = rw by-number (unread-rows (decimalOf (drop 5 line)) (rw digits-are at (sym e ∙ b)))
 
-    module _ {r : Number} {n : ℕ} (read : r ≡ numberOf (take (length line - 5) (drop 5 line))) (value : r ≡ Number.Value n) where
+    module _ {r : Number} {n : ℕ} (read : r ≡ numberIn (take (length line - 5) (drop 5 line))) (value : r ≡ Number.Value n) where
       number-is : decimalOf (drop 5 line) ≡ some n
       number-is = number-value (drop 5 line) (rw digits-are at (sym read ∙ value)) .0
 
@@ -166,7 +168,7 @@ rows-more (suc i) s =
 pub record Rowed (out₀ : List ℕ) (at : ℕ) (table : List ℕ) (rows : ℕ) (out : List ℕ) (end i : ℕ) : Type 0 where
   pub size : length out ≡ length out₀
   pub within : i ≤ rows
-  pub place : end ≡ at + 193 * i
+  pub place : end ≡ at + rowText * i
   pub printed : Put out₀ at (rowsText i table) out end
 
 module _ (out₀ : List ℕ) (at : ℕ) (table : List ℕ) (rows : ℕ) where
@@ -181,30 +183,30 @@ module _ (out₀ : List ℕ) (at : ℕ) (table : List ℕ) (rows : ℕ) where
       }
 
   module _ (out : List ℕ) (end i : ℕ) (rowed : Rowed out₀ at table rows out end i) where
-    row-length : i < rows → 96 * rows ≡ length table → length (take (96 * i + 96 - 96 * i) (drop (96 * i) table)) ≡ 96
+    row-length : i < rows → rowBytes * rows ≡ length table → length (take (rowBytes * i + rowBytes - rowBytes * i) (drop (rowBytes * i) table)) ≡ rowBytes
     row-length l whole =
-        let d = length-drop (96 * i) table in
-        let z : 96 * i + 96 - 96 * i ≡ 96 = omega arith in
-        rw z (length-take-le 96 (drop (96 * i) table) (omega arith))
+        let d = length-drop (rowBytes * i) table in
+        let z : rowBytes * i + rowBytes - rowBytes * i ≡ rowBytes = omega arith in
+        rw z (length-take-le rowBytes (drop (rowBytes * i) table) (omega arith))
 
-    pub row-room : i < rows → 96 * rows ≡ length table → at + 193 * rows ≤ length out₀
-        → end + 2 * length (take (96 * i + 96 - 96 * i) (drop (96 * i) table)) ≤ length out
+    pub row-room : i < rows → rowBytes * rows ≡ length table → at + rowText * rows ≤ length out₀
+        → end + 2 * length (take (rowBytes * i + rowBytes - rowBytes * i) (drop (rowBytes * i) table)) ≤ length out
     row-room l whole room = rw (row-length l whole) (omega (arith, rowed .place, rowed .size))
 
-    pub rowed-all : rows ≤ i → Put out₀ at (rowsText rows table) out end × (end ≡ at + 193 * rows)
+    pub rowed-all : rows ≤ i → Put out₀ at (rowsText rows table) out end × (end ≡ at + rowText * rows)
     rowed-all l = let e : i ≡ rows = omega (arith, rowed .within) in (rw e at (rowed .printed), rw e at (rowed .place))
 
-    module _ {out′ : List ℕ} {stop : ℕ} (l : i < rows) (whole : 96 * rows ≡ length table) (room : at + 193 * rows ≤ length out₀) (kept : length out′ ≡ length out)
-        (put : Put out end (hexText (take (96 * i + 96 - 96 * i) (drop (96 * i) table))) out′ stop) where
-      pub row-end : stop ≡ end + 192
-      row-end = rw (hex-length (take (96 * i + 96 - 96 * i) (drop (96 * i) table)), row-length l whole) at (put .place)
+    module _ {out′ : List ℕ} {stop : ℕ} (l : i < rows) (whole : rowBytes * rows ≡ length table) (room : at + rowText * rows ≤ length out₀) (kept : length out′ ≡ length out)
+        (put : Put out end (hexText (take (rowBytes * i + rowBytes - rowBytes * i) (drop (rowBytes * i) table))) out′ stop) where
+      pub row-end : stop ≡ end + 2 * rowBytes
+      row-end = rw (hex-length (take (rowBytes * i + rowBytes - rowBytes * i) (drop (rowBytes * i) table)), row-length l whole) at (put .place)
 
       pub row-within : stop < length out′
       row-within = omega (arith, row-end, kept, rowed .place, rowed .size)
 
       pub rowed-more : Rowed out₀ at table rows (set out′ stop lineFeed) (stop + 1) (i + 1)
       rowed-more =
-          let z : 96 * i + 96 - 96 * i ≡ 96 = omega arith in
+          let z : rowBytes * i + rowBytes - rowBytes * i ≡ rowBytes = omega arith in
           record {
             size = length-set out′ stop lineFeed ∙ kept ∙ rowed .size;
             within = omega arith;

@@ -10,6 +10,8 @@ ghost use mathlib.Core.Path.{_≡_};
 ghost use Prim.Native.Nat.{_+_, _*_, _≤_};
 ghost use lib.ListN.{length};
 ghost use Rattle.lines.specs.Lines.{Put};
+ghost use Rattle.row.specs.Row.{rowBytes};
+ghost use Rattle.script.specs.Sizes.{rowText};
 ghost use Rattle.script.specs.Script.{hexText, rowsText, rowsOf, orZero};
 
 // N of a line `rows,N` that is right, and 0 of any other.
@@ -53,10 +55,10 @@ fn put_hex(out: &mut [u8], at: usize, bytes: &[u8]) -> usize
 
 // Puts the rows of a table at at, a line each, and answers where they end.
 pub(crate) fn put_rows(out: &mut [u8], at: usize, table: &[u8], rows: usize) -> usize
-    requires { ⌜ 96 * rows ≡ length (now table) ⌝ }
-    requires { ⌜ at + 193 * rows ≤ length (now out) ⌝ }
+    requires { ⌜ rowBytes * rows ≡ length (now table) ⌝ }
+    requires { ⌜ at + rowText * rows ≤ length (now out) ⌝ }
     ensures { λ r. ⌜ Put (now (out .entry)) at (rowsText rows (now (table .entry))) (now (out .exit)) r ⌝ }
-    ensures { λ r. ⌜ r ≡ at + 193 * rows ⌝ }
+    ensures { λ r. ⌜ r ≡ at + rowText * rows ⌝ }
 {
     let mut end = at;
     let mut i = 0;

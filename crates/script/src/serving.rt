@@ -1,6 +1,7 @@
 // What a line does to the table, and what it prints.
 use crate::rows::put_rows;
 use crate::rows::rows_of;
+use crate::sizes::LONGEST;
 use call_lines::serve_line;
 use lines::LINE_FEED;
 use lines::put;
@@ -14,11 +15,10 @@ ghost use Prim.Native.Nat.{ℕ, _+_, _*_, _≤_};
 ghost use lib.ListN.{length};
 ghost use Rattle.lines.specs.Lines.{lineFeed, Held, Put};
 ghost use Rattle.window.specs.PasswordAt.{passwordAt};
+ghost use Rattle.row.specs.Row.{rowBytes};
 ghost use Rattle.call_lines.specs.Line.{lineAfter};
+ghost use Rattle.script.specs.Sizes.{tableBytes, mostText};
 ghost use Rattle.script.specs.Script.{rowsOf, orZero, laterLine, stageIn, Serves};
-
-// The longest line that is looked at.
-pub const LONGEST: usize = 4096;
 
 // Whether no line was read yet, and how many rows the table has.
 pub struct Stage {
@@ -50,10 +50,10 @@ fn put_answer(table: &mut [u8], line: &[u8], out: &mut [u8], at: usize) -> usize
 
 // A line on a table of rows that are all of it.
 fn serve_later(table: &mut [u8], rows: usize, line: &[u8], out: &mut [u8], at: usize) -> usize
-    requires { ⌜ 96 * rows ≡ length (now table) ⌝ }
+    requires { ⌜ rowBytes * rows ≡ length (now table) ⌝ }
     requires { ⌜ rows ≤ 256 ⌝ }
-    requires { ⌜ at + 49408 ≤ length (now out) ⌝ }
-    ensures { λ r. ⌜ r ≤ at + 49408 ⌝ }
+    requires { ⌜ at + mostText ≤ length (now out) ⌝ }
+    ensures { λ r. ⌜ r ≤ at + mostText ⌝ }
     ensures { λ r. ⌜ Put (now (out .entry)) at (laterLine passwordAt (now (line .entry)) (now (table .entry)) .text) (now (out .exit)) r ⌝ }
     ensures { λ _. ⌜ now (table .exit) ≡ laterLine passwordAt (now (line .entry)) (now (table .entry)) .stage .table ⌝ }
 {
@@ -77,11 +77,11 @@ fn asked_rows(fresh: bool, line: &[u8]) -> usize
 
 // A line of up to 4,096 bytes.
 fn serve(table: &mut [u8], stage: Stage, line: &[u8], out: &mut [u8], at: usize) -> Served
-    requires { ⌜ length (now table) ≡ 24576 ⌝ }
+    requires { ⌜ length (now table) ≡ tableBytes ⌝ }
     requires { ⌜ stage .rows ≤ 256 ⌝ }
     requires { ⌜ length (now line) ≤ 4096 ⌝ }
-    requires { ⌜ at + 49408 ≤ length (now out) ⌝ }
-    ensures { λ r. ⌜ (r .rows ≤ 256) × (r .end ≤ at + 49408) ⌝ }
+    requires { ⌜ at + mostText ≤ length (now out) ⌝ }
+    ensures { λ r. ⌜ (r .rows ≤ 256) × (r .end ≤ at + mostText) ⌝ }
     ensures { λ r. ⌜ Serves passwordAt (now (line .entry) ∷ []) (stageIn (stage .fresh) (stage .rows) (now (table .entry))) (stageIn (r .fresh) (r .rows) (now (table .exit))) (now (out .entry)) at (now (out .exit)) (r .end) ⌝ }
 {
     let rows = asked_rows(stage.fresh, line);
@@ -113,10 +113,10 @@ pub(crate) fn serve_pending(
     at: usize,
 ) -> Served
     requires { ⌜ length (now line) ≡ 4096 ⌝ }
-    requires { ⌜ length (now table) ≡ 24576 ⌝ }
+    requires { ⌜ length (now table) ≡ tableBytes ⌝ }
     requires { ⌜ stage .rows ≤ 256 ⌝ }
-    requires { ⌜ at + 49408 ≤ length (now out) ⌝ }
-    ensures { λ r. ⌜ (r .rows ≤ 256) × (r .end ≤ at + 49408) ⌝ }
+    requires { ⌜ at + mostText ≤ length (now out) ⌝ }
+    ensures { λ r. ⌜ (r .rows ≤ 256) × (r .end ≤ at + mostText) ⌝ }
     ensures { λ r. ⌜ ((p : List ℕ) → Held (now (line .entry)) n p → Serves passwordAt (p ∷ []) (stageIn (stage .fresh) (stage .rows) (now (table .entry))) (stageIn (r .fresh) (r .rows) (now (table .exit))) (now (out .entry)) at (now (out .exit)) (r .end)) ⌝ }
 {
     if LONGEST < n {

@@ -2,6 +2,7 @@
 use crate::serving::Served;
 use crate::serving::Stage;
 use crate::serving::serve_pending;
+use crate::sizes::FULL;
 use lines::LINE_FEED;
 use lines::extend;
 use text::find;
@@ -11,10 +12,8 @@ ghost use Prim.Native.Nat.{ℕ, _+_, _≤_};
 ghost use lib.ListN.{length, take};
 ghost use Rattle.lines.specs.Lines.{last, Held};
 ghost use Rattle.window.specs.PasswordAt.{passwordAt};
+ghost use Rattle.script.specs.Sizes.{tableBytes, mostText, outputBytes, Sized};
 ghost use Rattle.script.specs.Script.{stageIn, Serves, Follows};
-
-// Above it there may be no room for all rows.
-const FULL: usize = 65536;
 
 // How many bytes of the piece are read, the pending line's length, the stage, and where what was printed ends.
 pub struct Fed {
@@ -37,10 +36,10 @@ fn feed(
 ) -> Fed
     requires { ⌜ length (now line) ≡ 4096 ⌝ }
     requires { ⌜ n ≤ 4097 ⌝ }
-    requires { ⌜ length (now table) ≡ 24576 ⌝ }
+    requires { ⌜ length (now table) ≡ tableBytes ⌝ }
     requires { ⌜ stage .rows ≤ 256 ⌝ }
-    requires { ⌜ at + 49408 ≤ length (now out) ⌝ }
-    ensures { λ r. ⌜ (r .used ≤ length (now (piece .entry))) × ((1 ≤ length (now (piece .entry)) → 1 ≤ r .used) × ((r .n ≤ 4097) × ((r .rows ≤ 256) × (r .end ≤ at + 49408)))) ⌝ }
+    requires { ⌜ at + mostText ≤ length (now out) ⌝ }
+    ensures { λ r. ⌜ (r .used ≤ length (now (piece .entry))) × ((1 ≤ length (now (piece .entry)) → 1 ≤ r .used) × ((r .n ≤ 4097) × ((r .rows ≤ 256) × (r .end ≤ at + mostText)))) ⌝ }
     ensures { λ r. ⌜ Follows passwordAt (now (line .entry)) n (take (r .used) (now (piece .entry))) (now (line .exit)) (r .n) (stageIn (stage .fresh) (stage .rows) (now (table .entry))) (stageIn (r .fresh) (r .rows) (now (table .exit))) (now (out .entry)) at (now (out .exit)) (r .end) ⌝ }
 {
     let found = find(piece, 0, piece.len(), LINE_FEED);
@@ -73,12 +72,8 @@ pub fn fill(
     piece: &[u8],
     out: &mut [u8],
 ) -> Fed
-    requires { ⌜ length (now line) ≡ 4096 ⌝ }
-    requires { ⌜ n ≤ 4097 ⌝ }
-    requires { ⌜ length (now table) ≡ 24576 ⌝ }
-    requires { ⌜ stage .rows ≤ 256 ⌝ }
-    requires { ⌜ length (now out) ≡ 114944 ⌝ }
-    ensures { λ r. ⌜ (r .used ≤ length (now (piece .entry))) × ((1 ≤ length (now (piece .entry)) → 1 ≤ r .used) × ((r .n ≤ 4097) × ((r .rows ≤ 256) × (r .end ≤ 114944)))) ⌝ }
+    requires { ⌜ Sized (now line) (now table) (now out) n (stage .rows) ⌝ }
+    ensures { λ r. ⌜ (r .used ≤ length (now (piece .entry))) × ((1 ≤ length (now (piece .entry)) → 1 ≤ r .used) × ((r .n ≤ 4097) × ((r .rows ≤ 256) × (r .end ≤ outputBytes)))) ⌝ }
     ensures { λ r. ⌜ Follows passwordAt (now (line .entry)) n (take (r .used) (now (piece .entry))) (now (line .exit)) (r .n) (stageIn (stage .fresh) (stage .rows) (now (table .entry))) (stageIn (r .fresh) (r .rows) (now (table .exit))) (now (out .entry)) 0 (now (out .exit)) (r .end) ⌝ }
 {
     let mut pending = n;
@@ -107,10 +102,10 @@ pub fn fill(
 // Serves the line that the end of the input ends, if one has begun.
 pub fn finish(line: &[u8], n: usize, table: &mut [u8], stage: Stage, out: &mut [u8]) -> Served
     requires { ⌜ length (now line) ≡ 4096 ⌝ }
-    requires { ⌜ length (now table) ≡ 24576 ⌝ }
+    requires { ⌜ length (now table) ≡ tableBytes ⌝ }
     requires { ⌜ stage .rows ≤ 256 ⌝ }
-    requires { ⌜ 49408 ≤ length (now out) ⌝ }
-    ensures { λ r. ⌜ (r .rows ≤ 256) × (r .end ≤ 49408) ⌝ }
+    requires { ⌜ mostText ≤ length (now out) ⌝ }
+    ensures { λ r. ⌜ (r .rows ≤ 256) × (r .end ≤ mostText) ⌝ }
     ensures { λ r. ⌜ ((p : List ℕ) → Held (now (line .entry)) n p → Serves passwordAt (last p) (stageIn (stage .fresh) (stage .rows) (now (table .entry))) (stageIn (r .fresh) (r .rows) (now (table .exit))) (now (out .entry)) 0 (now (out .exit)) (r .end)) ⌝ }
 {
     if n == 0 {

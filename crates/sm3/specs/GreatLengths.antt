@@ -7,7 +7,7 @@ use mathlib.Core.List.{List, [], _∷_, _++_}
 use lib.Dec.{eqb, ltb}
 use lib.ListN.{length, replicate}
 use Rattle.words.specs.Bytes.{beBytes}
-use Rattle.words.specs.Tables.{every}
+use Rattle.words.specs.Entries.{every}
 use Rattle.sm3.specs.Sm3.{zerosAfter, padded, sm3Answer}
 
 -- after l bytes, the byte 80 and the fewest zeros, 8 bytes end a block of 64; the entries are the lengths from 0 to 63, modulo 64

@@ -1,4 +1,5 @@
 -- SM3 (GB/T 32905-2016): the definition, its laws, and the standard's examples computed.
+pub mod Rounds
 pub mod Sm3
 pub mod PaddingLaws
 pub mod Sm3Laws

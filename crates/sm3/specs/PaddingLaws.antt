@@ -8,14 +8,12 @@ use borrow.Author.Tests.{lt-ltb, le-ltb, ltb-true, ltb-false}
 use lib.Dec.{ltb}
 use lib.ListN.{length, set, take, drop, replicate, length-append, length-drop, length-replicate, replicate-append-replicate}
 use lib.Seq.{take-all, take-length, set-at, drop-append-le}
-use Rattle.words.specs.ListsLaws.{drop-zeros, by-test}
+use Rattle.words.specs.ListsLaws.{drop-zeros}
+use Rattle.words.specs.BoolLaws.{by-test}
 use Rattle.words.specs.Bytes.{beBytes, putBe}
 use Rattle.words.specs.BytesLaws.{putBe-seam}
 use Rattle.sm3.specs.Sm3.{zerosAfter, padded}
-
--- the blocks of a padded message of l bytes after its l / 64 whole ones
-unfoldable pub lastBlocks : ℕ → ℕ
-lastBlocks l = cond (ltb (l % 64) 56) 1 2
+use Rattle.sm3.specs.Rounds.{lastBlocks}
 
 pub last-blocks-one : (l : ℕ) → l % 64 < 56 → 1 ≡ lastBlocks l
 unfolding lastBlocks

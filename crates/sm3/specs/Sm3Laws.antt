@@ -1,7 +1,7 @@
 -- Laws of SM3, in the form in which the code's loops need them.
 use Prim.Native.Nat.{ℕ, zero, suc, _+_, _-_, _*_, _/_, _%_, _^_, _≤_, _<_}
 use mathlib.Core.Path.{_≡_, refl, sym, ap, _∙_}
-use mathlib.Core.List.{List, [], _∷_, _++_, append-assoc}
+use mathlib.Core.List.{List, _∷_, _++_, append-assoc}
 use native.Mathlib.Nat.{add-assoc, add-suc, add-zero, zero-add}
 use native.Mathlib.Numerals.{add-one, add-four}
 use native.Mathlib.Omega.{arith}
@@ -9,31 +9,20 @@ use borrow.Author.Tests.{lt-ltb, le-ltb, ltb-true, ltb-false, eqb-true}
 use lib.Dec.{ltb, eqb}
 use lib.ListN.{length, getD, set, take, drop, replicate, length-set, length-append, length-drop, length-replicate, replicate-append-replicate, take-append-drop, List·getD-append}
 use lib.Seq.{getD-take, getD-drop, getD-set-other, take-all, length-take-le, take-suc-set, set-at, set-out}
-use Rattle.words.specs.ListsLaws.{by-test}
+use Rattle.words.specs.BoolLaws.{by-test}
+use Rattle.words.specs.Entries.{entry-rule}
 use Rattle.words.specs.Bytes.{beAt, beBytes, putBe}
 use Rattle.words.specs.BytesLaws.{beAt-agree, length-beBytes, putBe-seam, beBytes-split}
 use Rattle.words.specs.Codes.{done, badArgument}
 use Rattle.words.specs.Words.{_⊕_, _⋘_}
 use Rattle.words.specs.WordsLaws.{rotated-pair, xor-assoc}
-use Rattle.words.specs.Tables.{entry-rule}
 use Rattle.sm3.specs.declared.Registers.{Registers}
 use Rattle.sm3.specs.declared.Hash.{Hash}
 use Rattle.sm3.specs.Sm3.{constant, parity, majority, choice, ff, gg, roundWith, round, rounds, nextWord, expand, compressed, wordsAt, xored, iterated, zerosAfter, padded, iv, digest, sm3Of, sm3Answer}
-use Rattle.sm3.specs.PaddingLaws.{lastBlocks, last-blocks-fill}
+use Rattle.sm3.specs.Rounds.{lastBlocks, constants, fourRounds, roundsFrom, grown, Reached, lastValue, wordTotal}
+use Rattle.sm3.specs.PaddingLaws.{last-blocks-fill}
 
 -- ---- the constants: T of each round, rotated by the round's number
-
-abbrev pub constants : List ℕ
-constants =
-    0x79cc4519 ∷ 0xf3988a32 ∷ 0xe7311465 ∷ 0xce6228cb ∷ 0x9cc45197 ∷ 0x3988a32f ∷ 0x7311465e ∷ 0xe6228cbc ∷
-    0xcc451979 ∷ 0x988a32f3 ∷ 0x311465e7 ∷ 0x6228cbce ∷ 0xc451979c ∷ 0x88a32f39 ∷ 0x11465e73 ∷ 0x228cbce6 ∷
-    0x9d8a7a87 ∷ 0x3b14f50f ∷ 0x7629ea1e ∷ 0xec53d43c ∷ 0xd8a7a879 ∷ 0xb14f50f3 ∷ 0x629ea1e7 ∷ 0xc53d43ce ∷
-    0x8a7a879d ∷ 0x14f50f3b ∷ 0x29ea1e76 ∷ 0x53d43cec ∷ 0xa7a879d8 ∷ 0x4f50f3b1 ∷ 0x9ea1e762 ∷ 0x3d43cec5 ∷
-    0x7a879d8a ∷ 0xf50f3b14 ∷ 0xea1e7629 ∷ 0xd43cec53 ∷ 0xa879d8a7 ∷ 0x50f3b14f ∷ 0xa1e7629e ∷ 0x43cec53d ∷
-    0x879d8a7a ∷ 0x0f3b14f5 ∷ 0x1e7629ea ∷ 0x3cec53d4 ∷ 0x79d8a7a8 ∷ 0xf3b14f50 ∷ 0xe7629ea1 ∷ 0xcec53d43 ∷
-    0x9d8a7a87 ∷ 0x3b14f50f ∷ 0x7629ea1e ∷ 0xec53d43c ∷ 0xd8a7a879 ∷ 0xb14f50f3 ∷ 0x629ea1e7 ∷ 0xc53d43ce ∷
-    0x8a7a879d ∷ 0x14f50f3b ∷ 0x29ea1e76 ∷ 0x53d43cec ∷ 0xa7a879d8 ∷ 0x4f50f3b1 ∷ 0x9ea1e762 ∷ 0x3d43cec5 ∷
-    []
 
 pub constant-at : (j : ℕ) → j < 64 → getD constants j 0 ≡ constant j ⋘ (j % 32)
 unfolding _⋘_
@@ -46,10 +35,6 @@ pub permuted-by-eight : (x n : ℕ) → x < 2 ^ 32 → n ≤ 24 → x ⊕ ((x �
 permuted-by-eight x n word within = ap (λ (y : ℕ). x ⊕ y) (rotated-pair x 8 n word (omega arith)) ∙ sym (xor-assoc x (x ⋘ n) (x ⋘ (8 + n)))
 
 -- ---- rounds
-
--- the rounds j to j + 3
-abbrev pub fourRounds : ℕ → List ℕ → Registers → Registers
-fourRounds j w r = round (j + 3) w (round (j + 2) w (round (j + 1) w (round j w r)))
 
 module _ (j x y z : ℕ) where
   pub ff-early : j < 16 → parity x y z ≡ ff j x y z
@@ -78,11 +63,6 @@ round-of j w t r h table p q e = let k : getD t j 0 ≡ constant j ⋘ (j % 32) 
 pub table-length : {t : List ℕ} → t ≡ constants → length t ≡ 64
 table-length e = ap length e
 
--- n rounds from round j on
-unfoldable pub roundsFrom : ℕ → ℕ → List ℕ → Registers → Registers
-roundsFrom zero j w r = r
-roundsFrom (suc n) j w r = round (j + n) w (roundsFrom n j w r)
-
 pub four-more : (n j : ℕ) (w : List ℕ) (r : Registers) → fourRounds (j + n) w (roundsFrom n j w r) ≡ roundsFrom (n + 4) j w r
 unfolding roundsFrom
 four-more n j w r =
@@ -102,11 +82,6 @@ rounds-on zero n j w r = rw add-zero
 rounds-on (suc m) n j w r = rw (add-suc, ← add-assoc j n m, rounds-on m n j w r)
 
 -- ---- the words that grow along with the rounds
-
--- w with n words more stored from place j on
-unfoldable pub grown : ℕ → List ℕ → ℕ → List ℕ
-grown zero w j = w
-grown (suc n) w j = let v = grown n w j in set v (j + n) (nextWord v (j + n))
 
 pub length-grown : (n : ℕ) (w : List ℕ) (j : ℕ) → length (grown n w j) ≡ length w
 unfolding grown
@@ -165,11 +140,6 @@ pub four-grown : (w : List ℕ) (j : ℕ) {w₁ w₂ w₃ w₄ : List ℕ} → w
     → w₄ ≡ set w₃ (j + 3) (nextWord w₃ (j + 3)) → w₄ ≡ grown 4 w j
 unfolding grown
 four-grown w j p q r s = let e : j + 0 ≡ j = add-zero j in cc
-
--- i rounds from round s on, with the words that go along
-pub record Reached (i s : ℕ) (w₀ : List ℕ) (r₀ : Registers) (w : List ℕ) (r : Registers) : Type 0 where
-  pub words : w ≡ grown i w₀ (s + 16)
-  pub registers : r ≡ roundsFrom i s w r₀
 
 pub reached-none : (s : ℕ) (w : List ℕ) (r : Registers) → Reached 0 s w r w r
 unfolding grown roundsFrom
@@ -281,14 +251,6 @@ sm3-of m rest blocks {end} {value} {last} b e v l =
     let all : last ≡ iterated (whole + blocks) (padded m) iv =
     l ∙ rw (e, iterated-append blocks (drop (64 * whole) (padded m)) rest value room, first) (iterated-on blocks whole (padded m) iv) in
     rw (all, total)
-
--- the value V after the last block
-unfoldable pub lastValue : List ℕ → Registers
-lastValue m = let p = padded m in iterated (length p / 64) p iv
-
--- the sum of a value's words, modulo 2^32
-abbrev pub wordTotal : Registers → ℕ
-wordTotal r = (r .a + r .b + r .c + r .d + r .e + r .f + r .g + r .h) % 2 ^ 32
 
 -- a sum whose terms wrapped wraps to the same
 wrapped-sum : (x y : ℕ) {p q s : ℕ} → p ≡ x % 2 ^ 32 → q ≡ y % 2 ^ 32 → s ≡ (p + q) % 2 ^ 32 → s ≡ (x + y) % 2 ^ 32

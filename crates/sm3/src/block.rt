@@ -5,7 +5,7 @@ ghost use mathlib.Core.Path.{_≡_};
 ghost use Prim.Native.Nat.{_+_, _%_, _≤_, _<_};
 ghost use lib.ListN.{length, set, take};
 ghost use Rattle.sm3.specs.Sm3.{p1, wordsAt, nextWord};
-ghost use Rattle.sm3.specs.Sm3Laws.{grown};
+ghost use Rattle.sm3.specs.Rounds.{grown};
 
 // Room for the words W_0 to W_67, with the sixteen of the block in place.
 pub(crate) fn load(m: &[u8], at: usize) -> [u32; 68]

@@ -10,7 +10,7 @@ ghost use mathlib.Core.Path.{_≡_};
 ghost use Prim.Native.Nat.{_+_, _*_, _≤_};
 ghost use lib.ListN.{length};
 ghost use Rattle.sm3.specs.Sm3.{wordsAt, xored, compressed, iterated};
-ghost use Rattle.sm3.specs.Sm3Laws.{constants, grown, roundsFrom, wordTotal};
+ghost use Rattle.sm3.specs.Rounds.{constants, grown, roundsFrom, wordTotal};
 
 // The rounds 0 to 15, and the words W_16 to W_31.
 fn early_rounds(v: Registers, w: &mut [u32], t: &[u32]) -> Registers

@@ -6,7 +6,7 @@ ghost use mathlib.Core.List.{_++_};
 ghost use Prim.Native.Nat.{_+_, _*_, _-_, _/_, _<_, _^_};
 ghost use lib.ListN.{length, take, drop, replicate};
 ghost use Rattle.sm3.specs.Sm3.{padded};
-ghost use Rattle.sm3.specs.PaddingLaws.{lastBlocks};
+ghost use Rattle.sm3.specs.Rounds.{lastBlocks};
 
 // How many blocks follow the whole ones: two where the length has no room in one.
 pub(crate) fn last_blocks(len: usize) -> usize

@@ -6,7 +6,7 @@ ghost use mathlib.Core.Path.{_≡_};
 ghost use Prim.Native.Nat.{_+_, _≤_, _<_};
 ghost use lib.ListN.{length};
 ghost use Rattle.sm3.specs.Sm3.{parity, majority, choice, p0, roundWith, round};
-ghost use Rattle.sm3.specs.Sm3Laws.{constants, fourRounds};
+ghost use Rattle.sm3.specs.Rounds.{constants, fourRounds};
 
 // FF and GG of the rounds 0 to 15.
 pub fn parity(x: u32, y: u32, z: u32) -> u32

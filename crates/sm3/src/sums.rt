@@ -6,7 +6,7 @@ use crate::table::constants;
 ghost use mathlib.Core.Path.{_≡_};
 ghost use Prim.Native.Nat.{_-_, _<_};
 ghost use lib.ListN.{length, take, drop, replicate};
-ghost use Rattle.sm3.specs.Sm3Laws.{wordTotal, lastValue};
+ghost use Rattle.sm3.specs.Rounds.{wordTotal, lastValue};
 
 // The sum for the message in the first len bytes of m, which has zeros behind it. The message is padded where it lies.
 pub fn hash_sum(m: &mut [u8], len: usize) -> u32

@@ -1,6 +1,6 @@
 // The constants T_j of the rounds (4.2), each rotated left by j. They are laid once and lent.
 ghost use mathlib.Core.Path.{_≡_};
-ghost use Rattle.sm3.specs.Sm3Laws.{constants};
+ghost use Rattle.sm3.specs.Rounds.{constants};
 
 const CONSTANTS: [u32; 64] = [
     0x79cc4519,

@@ -5,7 +5,8 @@ use mathlib.Core.Bool.{Bool, true, _&&_}
 use borrow.Author.Tests.{ltb-true, eqb-true}
 use lib.Dec.{ltb, eqb}
 use lib.ListN.{length}
-use Rattle.words.specs.Tables.{every, entry-rule, and-left, and-right}
+use Rattle.words.specs.BoolLaws.{and-left, and-right}
+use Rattle.words.specs.Entries.{every, entry-rule}
 use Rattle.sm4.specs.Sbox.{sbox, substitute, placeIn, place, HeldOnce}
 
 pub sbox-length : length sbox ≡ 256

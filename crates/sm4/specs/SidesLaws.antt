@@ -10,22 +10,12 @@ use lib.Seq.{getD-drop}
 use Rattle.words.specs.Codes.{done}
 use Rattle.sm4.specs.Sm4.{linear, linearKey, round, step, steps, wordsOf, reversed, encryptWith, masked, cks, roundKeys, keysFrom, sm4Of, cipherRefused, sm4Answer, firstRefused, firstAnswer}
 use Rattle.sm4.specs.Sm4Laws.{round-key-is}
-use Rattle.sm4.specs.ReturnLaws.{keys-more}
+use Rattle.sm4.specs.EncryptLaws.{keys-more}
 use Rattle.sm4.specs.declared.round.Quad.{Quad}
 use Rattle.sm4.specs.declared.sides.Sides.{Sides}
 use Rattle.sm4.specs.declared.chaining.First.{First}
 use Rattle.sm4.specs.declared.encryption.Cipher.{Cipher}
-
-abbrev pub sideStep : ℕ → Sides → Sides
-sideStep constant s =
-    record {
-      key = step linearKey constant (s .key);
-      state = step linear (step linearKey constant (s .key) .d) (s .state);
-    }
-
-unfoldable pub sideSteps : List ℕ → ℕ → Sides → Sides
-sideSteps cs zero s = s
-sideSteps cs (suc i) s = sideStep (getD cs i 0) (sideSteps cs i s)
+use Rattle.sm4.specs.Sides.{sideSteps, setFour}
 
 sides-add : (cs : List ℕ) (i n : ℕ) (s : Sides) → sideSteps cs (i + n) s ≡ sideSteps (drop i cs) n (sideSteps cs i s)
 unfolding sideSteps
@@ -61,9 +51,6 @@ sides-are key x (suc n) h =
     rw (sides-are key x n (omega arith), k)
 
 -- ---- the round keys stored on the way
-
-abbrev pub setFour : List ℕ → ℕ → Quad → List ℕ
-setFour ws i k = set (set (set (set ws i (k .a)) (i + 1) (k .b)) (i + 2) (k .c)) (i + 3) (k .d)
 
 -- one more, at the place after i
 next-key : (parameters ws : List ℕ) (i j : ℕ) (q : Quad) → parameters ≡ cks → length ws ≡ 32 → i < 32 → j ≡ i + 1

@@ -12,7 +12,7 @@ use lib.ListN.{length, getD, drop}
 use lib.Seq.{getD-drop}
 use Rattle.words.specs.Words.{_⊕_, _⋘_}
 use Rattle.words.specs.WordsLaws.{rotated-lt, rotated-whole, rotated-xor, rotations-add, rotated-pair, xor-assoc}
-use Rattle.words.specs.Tables.{every, entry-rule}
+use Rattle.words.specs.Entries.{every, entry-rule}
 use Rattle.sm4.specs.Sbox.{substitute}
 use Rattle.sm4.specs.SboxLaws.{sbox-byte}
 use Rattle.sm4.specs.Sm4.{word, tau, linear, linearKey, round, step, steps, wordsOf, masked, ckByte, ck, cksFrom, cks, keysFrom, roundKeys}

@@ -1,8 +1,8 @@
 // For a chain of blocks: the output as words, and the round keys with the first block.
+use crate::parameters::sbox;
 use crate::round::Quad;
 use crate::round::rounds;
 use crate::sides::sides_of;
-use crate::table::sbox;
 use words::codes::BAD_ARGUMENT;
 use words::codes::DONE;
 ghost use mathlib.Core.Path.{_≡_};

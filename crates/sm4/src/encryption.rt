@@ -1,8 +1,8 @@
 // The encryption of a block (GB/T 32907, 7.1).
+use crate::parameters::sbox;
 use crate::round::Quad;
 use crate::round::rounds;
 use crate::round::words_of;
-use crate::table::sbox;
 use words::bytes::put_be;
 use words::codes::BAD_ARGUMENT;
 use words::codes::DONE;

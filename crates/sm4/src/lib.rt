@@ -1,10 +1,10 @@
 // The block cipher SM4 (GB/T 32907): round keys from a key, and the encryption of a block. The modules that are public serve the crate lanes.
 mod chaining;
 mod encryption;
+pub mod parameters;
 pub mod round;
 pub mod schedule;
 pub mod sides;
-pub mod table;
 
 pub use chaining::CipherWords;
 pub use chaining::First;

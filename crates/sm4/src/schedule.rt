@@ -1,9 +1,9 @@
 // The key schedule (GB/T 32907, 7.3).
+use crate::parameters::constants;
+use crate::parameters::sbox;
 use crate::round::Quad;
 use crate::round::key_step;
 use crate::round::words_of;
-use crate::table::constants;
-use crate::table::sbox;
 use words::codes::BAD_ARGUMENT;
 use words::codes::DONE;
 ghost use mathlib.Core.Path.{_≡_};

@@ -2,20 +2,20 @@
 use crate::encryption::Cipher;
 use crate::encryption::refused;
 use crate::encryption::reversed;
+use crate::parameters::constants;
+use crate::parameters::sbox;
 use crate::round::Quad;
 use crate::round::key_round;
 use crate::round::round;
 use crate::round::words_of;
 use crate::schedule::masked;
-use crate::table::constants;
-use crate::table::sbox;
 use words::codes::DONE;
 ghost use mathlib.Core.Path.{_≡_};
 ghost use Prim.Native.Nat.{_+_, _≤_};
 ghost use lib.ListN.{length, drop};
 ghost use Rattle.sm4.specs.Sbox.{sbox};
 ghost use Rattle.sm4.specs.Sm4.{linear, steps, wordsOf, cks, keysFrom, roundKeys, sm4Answer};
-ghost use Rattle.sm4.specs.SidesLaws.{sideSteps, setFour};
+ghost use Rattle.sm4.specs.Sides.{sideSteps, setFour};
 
 // The words K_i to K_i+3 and X_i to X_i+3.
 pub struct Sides {

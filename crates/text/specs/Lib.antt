@@ -2,6 +2,8 @@
 pub mod Text
 pub mod Steps
 pub mod TextLaws
-pub mod ReturnLaws
+pub mod DecimalLaws
+pub mod HexLaws
+pub mod FieldLaws
 pub mod TextExamples
 pub mod ScanLaws

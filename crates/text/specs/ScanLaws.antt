@@ -15,7 +15,7 @@ use lib.Seq.{slice-empty, slice-cons}
 use Rattle.bytes.specs.Bytes.{indexOf, indexAfter, slice}
 use Rattle.words.specs.Bytes.{AreBytes, leAt}
 use Rattle.words.specs.ByteBitsLaws.{xor-zero, highest-bit-apart, trailing-shifted, trailing-odd, trailing-lt}
-use Rattle.words.specs.ListsLaws.{by-test}
+use Rattle.words.specs.BoolLaws.{by-test}
 use Rattle.words.specs.SwapLaws.{leAt-front}
 use Rattle.text.specs.Steps.{eachByte, firstZero}
 

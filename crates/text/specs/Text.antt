@@ -42,8 +42,8 @@ unfoldable pub bounded : Option ℕ → Number
 bounded none = Number.Bad
 bounded (some v) = cond (ltb v (2 ^ 64)) (Number.Value v) Number.Bad
 
-abbrev pub numberOf : List ℕ → Number
-numberOf s = bounded (decimalOf s)
+abbrev pub numberIn : List ℕ → Number
+numberIn s = bounded (decimalOf s)
 
 -- ---- hexadecimal bytes
 

@@ -11,16 +11,15 @@ use borrow.Author.Tests.{lt-ltb, le-ltb, leb-true, ltb-true, ltb-false, eqb-true
 use lib.Dec.{eqb, leb, ltb, leb·suc-suc}
 use lib.ListN.{length, getD, take, drop, replicate, length-append, length-drop}
 use lib.Seq.{take-append-seam, drop-append-seam, drop-drop}
-use Rattle.words.specs.ListsLaws.{by-test}
+use Rattle.words.specs.BoolLaws.{by-test, and-left, and-right, impossible}
 use Rattle.bytes.specs.Bytes.{indexOf, indexAfter}
-use Rattle.words.specs.Tables.{and-left, and-right}
-use Rattle.text.specs.Text.{digitValue, digitsFrom, decimalOf, bounded, numberOf, byteThen, hexOf, decoded, decodedOf, comma, longer, fieldsOf, behindCommas, joined, sumLengths, fieldEnd, endsFrom, splitOf}
+use Rattle.text.specs.Text.{digitValue, digitsFrom, decimalOf, bounded, numberIn, byteThen, hexOf, decoded, decodedOf, comma, longer, fieldsOf, behindCommas, joined, sumLengths, fieldEnd, endsFrom, splitOf}
 use Rattle.text.specs.Steps.{allHex, pairsOf}
 use Rattle.text.specs.declared.numbers.Number.{Number}
 use Rattle.text.specs.declared.fields.Split.{Split}
 
 none-some : {A B : Type 0} {a : A} → _≡_ {A = Option A} none (some a) → B
-none-some e = let z : _≡_ {A = ℕ} 0 1 = cc in absurd (omega arith)
+none-some e = impossible (cc)
 
 -- ---- digits
 
@@ -93,17 +92,17 @@ decimal-length (b ∷ c ∷ s) k {v} e p l =
 
 bounded-value : (o : Option ℕ) {v : ℕ} → bounded o ≡ Number.Value v → (o ≡ some v) × (v < 2 ^ 64)
 unfolding bounded
-bounded-value none e = let z : _≡_ {A = ℕ} 0 1 = cc in absurd (omega arith)
+bounded-value none e = impossible (cc)
 bounded-value (some w) {v} e =
     by-test (ltb w (2 ^ 64))
     (λ t. let h : Number.Value w ≡ Number.Value v = rw t at e in
     let same : w ≡ v = cc in
     let l = ltb-true w (2 ^ 64) t in
     (ap some same, omega arith))
-    (λ f. let h : Number.Bad ≡ Number.Value v = rw f at e in let z : _≡_ {A = ℕ} 0 1 = cc in absurd (omega arith))
+    (λ f. let h : Number.Bad ≡ Number.Value v = rw f at e in impossible (cc))
 
 -- what `decimal` answers is the number
-pub number-value : (s : List ℕ) {v : ℕ} → numberOf s ≡ Number.Value v → (decimalOf s ≡ some v) × (v < 2 ^ 64)
+pub number-value : (s : List ℕ) {v : ℕ} → numberIn s ≡ Number.Value v → (decimalOf s ≡ some v) × (v < 2 ^ 64)
 number-value s e = bounded-value (decimalOf s) e
 
 -- ---- hexadecimal bytes
@@ -153,11 +152,11 @@ module _ (s : List ℕ) {b : List ℕ} (e : hexOf s ≡ some b) where
 
 decoded-front : (o : Option (List ℕ)) → decoded o .ok ≡ true → (o ≡ some (take (decoded o .len) (decoded o .bytes))) × (decoded o .len ≤ length (decoded o .bytes))
 unfolding decoded
-decoded-front none e = let z : _≡_ {A = ℕ} 0 1 = cc in absurd (omega arith)
+decoded-front none e = impossible (cc)
 decoded-front (some b) e =
     by-test (leb (length b) 32)
     (λ t. rw (t, take-append-seam b (replicate (32 - length b) 0), length-append) (refl, le-add-right (length b) (length (replicate {A = ℕ} (32 - length b) 0))))
-    (λ f. let h : false ≡ true = rw f at e in let z : _≡_ {A = ℕ} 0 1 = cc in absurd (omega arith))
+    (λ f. let h : false ≡ true = rw f at e in impossible (cc))
 
 -- what `hex` decoded stands at the front of the bytes
 pub hex-decoded : (s : List ℕ) → decodedOf s .ok ≡ true
@@ -299,7 +298,7 @@ module _ (line : List ℕ) {r : Split} (split : r ≡ splitOf line) where
   six-fields t =
       by-test (eqb (length (fieldsOf line)) 6)
       (λ s. rw (split, s) (six-by line (fieldsOf line) refl (eqb-true (length (fieldsOf line)) 6 s)))
-      (λ s. let z : false ≡ true = rw (split, s) at t in let y : _≡_ {A = ℕ} 0 1 = cc in absurd (omega arith))
+      (λ s. let z : false ≡ true = rw (split, s) at t in impossible (cc))
 
   pub other-fields : r .ok ≡ false → eqb (length (fieldsOf line)) 6 ≡ false
   unfolding splitOf

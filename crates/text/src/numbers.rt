@@ -4,7 +4,7 @@ ghost use mathlib.Core.Path.{_≡_};
 ghost use Prim.Native.Nat.{_+_, _*_, _^_, _≤_};
 ghost use lib.Dec.{ltb};
 ghost use lib.ListN.{length};
-ghost use Rattle.text.specs.Text.{digitsFrom, bounded, numberOf};
+ghost use Rattle.text.specs.Text.{digitsFrom, bounded, numberIn};
 
 // A number below 2^64, or bytes that are none.
 pub enum Number {
@@ -67,7 +67,7 @@ fn few_digits(s: &[u8]) -> Number
 
 // The number in s. A zero in front is right only where it stands alone.
 pub fn decimal(s: &[u8]) -> Number
-    ensures { λ r. ⌜ r ≡ numberOf (now (s .entry)) ⌝ }
+    ensures { λ r. ⌜ r ≡ numberIn (now (s .entry)) ⌝ }
 {
     if s.len() == 0 {
         return Number::Bad;

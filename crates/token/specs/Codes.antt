@@ -5,24 +5,9 @@ use mathlib.Core.List.{List, [], _∷_}
 use lib.Dec.{leb}
 use Rattle.window.specs.declared.Offset.{Offset}
 use Rattle.window.specs.Window.{farthest}
-use Rattle.token.specs.declared.calls.Call.{Call}
 use Rattle.token.specs.declared.answers.Content.{Content}
 use Rattle.token.specs.declared.answers.Refusal.{Refusal}
 use Rattle.token.specs.declared.answers.Answer.{Answer}
-
-abbrev pub successNumber : Call → ℕ
-successNumber Call.Load = 0x0140
-successNumber Call.Login = 0x0001
-successNumber Call.ChallengeLogin = 0x0002
-successNumber Call.Activate = 0x0101
-successNumber Call.Lock = 0x0102
-successNumber Call.Unlock = 0x0103
-successNumber Call.Suspend = 0x0104
-successNumber Call.Resume = 0x0105
-successNumber Call.SyncMedium = 0x0108
-successNumber Call.SyncLarge = 0x0108
-successNumber Call.Void = 0x010a
-successNumber Call.Query = 0x010b
 
 abbrev pub refusalNumber : Refusal → ℕ
 refusalNumber Refusal.BadArgument = 0x9005
@@ -43,7 +28,7 @@ refusalNumber Refusal.Wrong = 0x8102
 refusalNumber Refusal.WrongAtSync = 0x8105
 
 abbrev pub numberOf : Answer → ℕ
-numberOf (Answer.Success call content) = successNumber call
+numberOf (Answer.Success number content) = number
 numberOf (Answer.Refused refusal) = refusalNumber refusal
 
 -- a signed number, as d is
@@ -59,4 +44,4 @@ signedOf d = cond (leb farthest (d .0)) (plus (d .0 - farthest)) (minus (farthes
 unfoldable pub valuesOf : Content → List Signed
 valuesOf Content.Plain = []
 valuesOf (Content.Checked step d) = plus (step .0) ∷ signedOf d ∷ []
-valuesOf (Content.Told status) = plus (status .state) ∷ plus (status .errors) ∷ plus (status .used .0) ∷ []
+valuesOf (Content.Queried status) = plus (status .state) ∷ plus (status .errors) ∷ plus (status .«last_use» .0) ∷ []

@@ -1,10 +1,8 @@
--- One token: its calls, states and answers (document 01, Part 5).
-pub mod Calls
+-- One token by value: the requests to it, its states and the answers (document 01, Part 5).
+pub mod Lines
 pub mod Codes
 pub mod States
-pub mod Serving
-pub mod OnTable
+pub mod Deciding
 pub mod StatesLaws
-pub mod ServingLaws
+pub mod DecidingLaws
 pub mod SetCases
-pub mod OnTableLaws

@@ -12,10 +12,13 @@ use Rattle.window.specs.Window.{timeCandidate, eventCandidate, candidate}
 use Rattle.window.specs.WindowTable.{timeTrack, eventTrack, candidatesFrom}
 use Rattle.window.specs.declared.Outcome.{Outcome}
 use Rattle.row.specs.declared.Row.{Row}
-use Rattle.token.specs.declared.calls.Call.{Call}
 use Rattle.token.specs.States.{waitOver, waited, failed}
-use Rattle.token.specs.Serving.{serving}
+use Rattle.token.specs.declared.lines.Request.{Request}
+use Rattle.token.specs.declared.deciding.Left.{Left}
+use Rattle.token.specs.Lines.{lineOf}
+use Rattle.token.specs.Deciding.{deciding}
 use Rattle.otp.specs.declared.Factor.the-variants.{Absent, Present}
+use Rattle.otp.specs.Typed.{asPassword}
 use Rattle.otp.specs.Password.{factorBytes, idOf, filled, blockSum, wordSum, cut, decimals, shown}
 
 -- a case: document 01's number of it, and a test that computes
@@ -52,12 +55,12 @@ tokenIn state locked =
       track = eventTrack 7;
       limit = 3;
       errors = 2;
-      length = 16;
+      «key_length» = 16;
       serial = 9;
       wait = 60;
       expiry = record { 0 = 5000 };
-      locked = record { 0 = locked };
-      used = record { 0 = 500 };
+      «locked_at» = record { 0 = locked };
+      «last_use» = record { 0 = 500 };
     }
 
 -- a token without errors whose limit is 1
@@ -68,13 +71,18 @@ limitOne r =
       track = r .track;
       limit = 1;
       errors = 0;
-      length = r .length;
+      «key_length» = r .«key_length»;
       serial = r .serial;
       wait = r .wait;
       expiry = r .expiry;
-      locked = r .locked;
-      used = r .used;
+      «locked_at» = r .«locked_at»;
+      «last_use» = r .«last_use»;
     }
+
+-- the state of a row that is stored
+abbrev pub stateLeft : Left → ℕ
+stateLeft Left.Same = 0
+stateLeft (Left.Stored r key) = r .state
 
 abbrev pub setCases : List Case
 setCases =
@@ -89,9 +97,9 @@ setCases =
     ∷ case 9 (sameBytes (candidatesFrom (2 ^ 32 - 20) 40 (eventTrack (2 ^ 32 - 1)) 0 Small) ((2 ^ 32 - 2) ∷ (2 ^ 32 - 1) ∷ []))
     ∷ case 10 (sameBytes (candidatesFrom 1590 20 (timeTrack 1 1200) 1000 Small) (1598 ∷ 1599 ∷ 1600 ∷ []))
     ∷ case 11 ((not (waitOver (tokenIn 3 1000) 999) && not (waitOver (tokenIn 3 1000) 1059)) && waitOver (tokenIn 3 1000) 1060)
-    ∷ case 12 (eqb (serving Call.Login (limitOne (tokenIn 2 0)) 1000 (λ k size. Outcome.Wrong) (λ k size. Outcome.Wrong) .row .state) 3)
+    ∷ case 12 (eqb (stateLeft (deciding (lineOf (Request.Login (asPassword text446720))) (limitOne (tokenIn 2 0)) 1000 (λ k asked. Outcome.Wrong) .left)) 3)
     ∷ []
 
 pub set-cases-hold : allHold setCases ≡ true
-unfolding factorBytes idOf filled blockSum wordSum cut decimals shown sameBytes beAt beBytes candidatesFrom candidate timeCandidate eventCandidate waitOver waited failed serving
+unfolding factorBytes idOf filled blockSum wordSum cut decimals shown sameBytes beAt beBytes candidatesFrom candidate timeCandidate eventCandidate waitOver waited failed deciding
 set-cases-hold = refl

@@ -1,5 +1,4 @@
-// What a call says (document 01, Parts 5 and "What a turned-down call says"). `numberOf` of specs/Codes.antt gives each case its code.
-use crate::calls::Call;
+// What a call says (document 01, Part 5 and "What a turned-down call says"). `numberOf` of specs/Codes.antt gives each case its code.
 use window::Offset;
 use window::Seconds;
 use window::Step;
@@ -8,14 +7,14 @@ use window::Step;
 pub struct Status {
     pub state: u8,
     pub errors: u8,
-    pub used: Seconds,
+    pub last_use: Seconds,
 }
 
 // What a success carries.
 pub enum Content {
     Plain,
     Checked(Step, Offset),
-    Told(Status),
+    Queried(Status),
 }
 
 pub enum Refusal {
@@ -37,7 +36,8 @@ pub enum Refusal {
     WrongAtSync,
 }
 
+// A success with its number and its content, or a refusal.
 pub enum Answer {
-    Success(Call, Content),
+    Success(u16, Content),
     Refused(Refusal),
 }

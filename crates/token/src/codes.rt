@@ -1,28 +1,8 @@
 // The numbers of the answers.
 use crate::answers::Answer;
 use crate::answers::Refusal;
-use crate::calls::Call;
 ghost use mathlib.Core.Path.{_≡_};
-ghost use Rattle.token.specs.Codes.{successNumber, refusalNumber, numberOf};
-
-fn success_number(call: Call) -> u16
-    ensures { λ r. ⌜ r ≡ successNumber call ⌝ }
-{
-    match call {
-        Call::Load => 0x0140,
-        Call::Login => 0x0001,
-        Call::ChallengeLogin => 0x0002,
-        Call::Activate => 0x0101,
-        Call::Lock => 0x0102,
-        Call::Unlock => 0x0103,
-        Call::Suspend => 0x0104,
-        Call::Resume => 0x0105,
-        Call::SyncMedium => 0x0108,
-        Call::SyncLarge => 0x0108,
-        Call::Void => 0x010a,
-        Call::Query => 0x010b,
-    }
-}
+ghost use Rattle.token.specs.Codes.{refusalNumber, numberOf};
 
 fn refusal_number(refusal: Refusal) -> u16
     ensures { λ r. ⌜ r ≡ refusalNumber refusal ⌝ }
@@ -52,7 +32,7 @@ pub fn number_of(answer: Answer) -> u16
     ensures { λ r. ⌜ r ≡ numberOf answer ⌝ }
 {
     match answer {
-        Answer::Success(call, _) => success_number(call),
+        Answer::Success(number, _) => number,
         Answer::Refused(refusal) => refusal_number(refusal),
     }
 }

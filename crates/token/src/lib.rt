@@ -1,20 +1,18 @@
-// One token: its calls, its states and the answers (document 01, Part 5).
+// One token by value: the requests to it, its states and the answers (document 01, Part 5).
 mod answers;
-mod calls;
 mod codes;
-mod serving;
+mod deciding;
+mod lines;
 mod states;
-mod table;
 
 pub use answers::Answer;
 pub use answers::Content;
 pub use answers::Refusal;
 pub use answers::Status;
-pub use calls::Call;
-pub use calls::Checking;
 pub use codes::number_of;
-pub use serving::Served;
-pub use serving::query;
-pub use serving::serve;
-pub use table::query_at;
-pub use table::serve_at;
+pub use deciding::Decision;
+pub use deciding::Key;
+pub use deciding::Left;
+pub use deciding::decide;
+pub use deciding::report;
+pub use lines::Request;

@@ -1,7 +1,4 @@
 // What happens to a token's row, by value.
-use crate::calls::Call;
-use crate::calls::is_login;
-use crate::calls::state_after;
 use row::LOCKED_BY_ERRORS;
 use row::READY;
 use row::Row;
@@ -14,14 +11,20 @@ use window::Track;
 use window::step_at;
 ghost use mathlib.Core.Path.{_≡_};
 ghost use Rattle.window.specs.Window.{Sound};
-ghost use Rattle.token.specs.States.{changed, waitOver, waited, lockedAfter, moved, offsetAfter, trackAfter, accepted, errorsAfter, failed};
-ghost use Rattle.token.specs.StatesLaws.{Near};
+ghost use Rattle.token.specs.States.{changed, waitOver, waited, lockedAfter, withState, Near, offsetAfter, trackAfter, accepted, errorsAfter, failed};
 
 const MOST_ERRORS: u8 = 255;
 
 // The row with other values of what calls change.
-fn changed(row: Row, state: u8, errors: u8, track: Track, locked: Seconds, used: Seconds) -> Row
-    ensures { λ r. ⌜ r ≡ changed row state errors track locked used ⌝ }
+fn changed(
+    row: Row,
+    state: u8,
+    errors: u8,
+    track: Track,
+    locked_at: Seconds,
+    last_use: Seconds,
+) -> Row
+    ensures { λ r. ⌜ r ≡ changed row state errors track «locked_at» «last_use» ⌝ }
 {
     let expiry = row.expiry;
     Row {
@@ -29,12 +32,12 @@ fn changed(row: Row, state: u8, errors: u8, track: Track, locked: Seconds, used:
         track,
         limit: row.limit,
         errors,
-        length: row.length,
+        key_length: row.key_length,
         serial: row.serial,
         wait: row.wait,
         expiry,
-        locked,
-        used,
+        locked_at,
+        last_use,
     }
 }
 
@@ -45,10 +48,10 @@ fn wait_over(row: Row, clock: Seconds) -> bool
     if row.state != LOCKED_BY_ERRORS {
         return false;
     }
-    if clock.0 < row.locked.0 {
+    if clock.0 < row.locked_at.0 {
         return false;
     }
-    row.wait as u64 <= clock.0 - row.locked.0
+    row.wait as u64 <= clock.0 - row.locked_at.0
 }
 
 // The row once a wait that has run out has made it ready.
@@ -56,9 +59,9 @@ pub(crate) fn waited(row: Row, clock: Seconds) -> Row
     ensures { λ r. ⌜ r ≡ waited row (clock .0) ⌝ }
 {
     let track = row.track;
-    let used = row.used;
+    let last_use = row.last_use;
     if wait_over(row, clock) {
-        return changed(row, READY, 0, track, Seconds(0), used);
+        return changed(row, READY, 0, track, Seconds(0), last_use);
     }
     row
 }
@@ -70,18 +73,17 @@ fn locked_after(row: Row, state: u8) -> Seconds
     if (row.state == LOCKED_BY_ERRORS) & (state != LOCKED_BY_ERRORS) {
         return Seconds(0);
     }
-    row.locked
+    row.locked_at
 }
 
-// The row in the state that a success leaves.
-pub(crate) fn moved(call: Call, row: Row) -> Row
-    ensures { λ r. ⌜ r ≡ moved call row ⌝ }
+// The row in another state.
+pub(crate) fn with_state(row: Row, state: u8) -> Row
+    ensures { λ r. ⌜ r ≡ withState row state ⌝ }
 {
     let track = row.track;
-    let used = row.used;
-    let state = state_after(call, row.state);
-    let locked = locked_after(row, state);
-    changed(row, state, row.errors, track, locked, used)
+    let last_use = row.last_use;
+    let locked_at = locked_after(row, state);
+    changed(row, state, row.errors, track, locked_at, last_use)
 }
 
 // The offset that an accepted step sets: d = a - T for a time token.
@@ -90,7 +92,7 @@ pub(crate) fn offset_after(track: Track, clock: Seconds, a: Step) -> Offset
     requires { ⌜ Near track (clock .0) (a .0) ⌝ }
     ensures { λ r. ⌜ r ≡ offsetAfter track (clock .0) (a .0) ⌝ }
 {
-    if track.rule.kind != TIME_TOKEN {
+    if track.scheme.kind != TIME_TOKEN {
         return track.offset;
     }
     let t = step_at(clock, track.period);
@@ -102,10 +104,10 @@ fn track_after(track: Track, clock: Seconds, a: Step) -> Track
     requires { ⌜ Near track (clock .0) (a .0) ⌝ }
     ensures { λ r. ⌜ r ≡ trackAfter track (clock .0) (a .0) ⌝ }
 {
-    let rule = track.rule;
+    let scheme = track.scheme;
     let offset = offset_after(track, clock, a);
     Track {
-        rule,
+        scheme,
         period: track.period,
         next: Step(a.0 + 1),
         offset,
@@ -113,14 +115,14 @@ fn track_after(track: Track, clock: Seconds, a: Step) -> Track
 }
 
 // The row once step a has been accepted.
-pub(crate) fn accepted(call: Call, row: Row, clock: Seconds, a: Step) -> Row
+pub(crate) fn accepted(row: Row, clock: Seconds, a: Step) -> Row
     requires { ⌜ Sound (row .track) (clock .0) ⌝ }
     requires { ⌜ Near (row .track) (clock .0) (a .0) ⌝ }
-    ensures { λ r. ⌜ r ≡ accepted call row (clock .0) (a .0) ⌝ }
+    ensures { λ r. ⌜ r ≡ accepted row (clock .0) (a .0) ⌝ }
 {
-    let locked = row.locked;
+    let locked_at = row.locked_at;
     let track = track_after(row.track, clock, a);
-    moved(call, changed(row, row.state, 0, track, locked, clock))
+    changed(row, row.state, 0, track, locked_at, clock)
 }
 
 fn errors_after(row: Row) -> u8
@@ -132,16 +134,16 @@ fn errors_after(row: Row) -> u8
     MOST_ERRORS
 }
 
-// The row once a password was used or wrong; a login's error that reaches the limit locks it.
-pub(crate) fn failed(call: Call, row: Row, clock: Seconds) -> Row
-    ensures { λ r. ⌜ r ≡ failed call row (clock .0) ⌝ }
+// The row once a password was used or wrong; where errors lock, one that reaches the limit does.
+pub(crate) fn failed(row: Row, clock: Seconds, locks: bool) -> Row
+    ensures { λ r. ⌜ r ≡ failed row (clock .0) locks ⌝ }
 {
     let track = row.track;
-    let locked = row.locked;
-    let used = row.used;
+    let locked_at = row.locked_at;
+    let last_use = row.last_use;
     let errors = errors_after(row);
-    if is_login(call) & (row.limit <= errors) {
-        return changed(row, LOCKED_BY_ERRORS, errors, track, clock, used);
+    if locks & (row.limit <= errors) {
+        return changed(row, LOCKED_BY_ERRORS, errors, track, clock, last_use);
     }
-    changed(row, row.state, errors, track, locked, used)
+    changed(row, row.state, errors, track, locked_at, last_use)
 }

@@ -1,13 +1,15 @@
 -- The smallest number that passes a test, and the loop that finds it.
 use Prim.Native.Nat.{ℕ, zero, suc, _+_, _≤_, _<_, zero-le}
-use mathlib.Core.Path.{_≡_, refl, sym, ap, _∙_}
+use mathlib.Core.Path.{_≡_, refl, ap}
 use mathlib.Core.Bool.{Bool, true, false, cond}
 use mathlib.Core.Logic.{_⊎_, inl, inr, ⊎-elim}
 use mathlib.Core.Option.{Option, none, some}
 use native.Mathlib.Nat.{not-suc-le-zero, le-refl, le-trans, le-suc}
 use native.Mathlib.Numerals.{add-one}
 use native.Mathlib.Omega.{arith}
+use Rattle.words.specs.BoolLaws.{clash}
 use Rattle.window.specs.Check.{orElse, smallest}
+use Rattle.window.specs.Search.{sweep}
 
 -- no number below n passes the test
 abbrev pub NoneBelow : (ℕ → Bool) → ℕ → Type 0
@@ -43,9 +45,6 @@ smallest-found test (suc n) = next (smallest test n) (smallest-found test n) (te
     next none (missing h) true e = found {s = n} (record { within = le-refl (suc n); passes = e; before = h })
     next none (missing h) false e = missing (below-suc test n h e)
 
-pub clash : {X : Type 0} {b : Bool} → b ≡ true → b ≡ false → X
-clash t f = let z : true ≡ false = sym t ∙ f in let y : _≡_ {A = ℕ} 0 1 = cc in absurd (omega arith)
-
 pub order : (r s : ℕ) → (r < s) ⊎ (s ≤ r)
 order r zero = inr zero-le
 order zero (suc s) = inl (omega arith)
@@ -65,11 +64,6 @@ least-is-smallest test n {s} l = told (smallest test n) (smallest-found test n)
     told none (missing h) = clash (l .passes) (h s (l .within))
 
 -- ---- the loop
-
--- the first of k numbers, from a place on, that passes the test
-unfoldable pub sweep : (ℕ → Bool) → ℕ → ℕ → Option ℕ
-sweep test from zero = none
-sweep test from (suc k) = cond (test from) (some from) (sweep test (from + 1) k)
 
 -- a test that nothing outside the range passes is searched within it
 pub smallest-is-sweep : (test : ℕ → Bool) (n from k : ℕ) → from + k ≤ n → NoneBelow test from → ((r : ℕ) → from + k ≤ r → test r ≡ false)

@@ -8,7 +8,7 @@ use Rattle.otp.specs.declared.Factor.{Factor}
 use Rattle.otp.specs.declared.Factor.the-variants.{Absent, Present}
 use Rattle.otp.specs.Password.{passwordOf, argumentsOk}
 use Rattle.otp.specs.StepCuts.{timeAt, countAt}
-use Rattle.window.specs.declared.Rule.{Rule}
+use Rattle.window.specs.declared.Scheme.{Scheme}
 use Rattle.window.specs.Window.{timeToken}
 
 -- step s has T = s for a time token, C = s for an event token
@@ -18,20 +18,17 @@ timeOf kind s = timeAt (eqb kind timeToken) s
 abbrev pub countOf : ℕ → ℕ → Factor
 countOf kind s = countAt (eqb kind timeToken) s
 
-unfoldable pub passwordAt : Rule → List ℕ → List ℕ → ℕ → List ℕ
-passwordAt rule key challenge s = passwordOf (rule .algorithm) key (timeOf (rule .kind) s) (countOf (rule .kind) s) challenge (rule .digits)
+unfoldable pub passwordAt : Scheme → List ℕ → List ℕ → ℕ → List ℕ
+passwordAt scheme key challenge s = passwordOf (scheme .algorithm) key (timeOf (scheme .kind) s) (countOf (scheme .kind) s) challenge (scheme .digits)
 
--- the rule, the key and the challenge are in range (document 01, Part 2); a step adds nothing to that
-abbrev pub inRange : Rule → List ℕ → List ℕ → Bool
-inRange rule key challenge = argumentsOk (rule .algorithm) key (Present 0) Absent challenge (rule .digits)
+-- the scheme, the key and the challenge are in range (document 01, Part 2); a step adds nothing to that
+abbrev pub inRange : Scheme → List ℕ → List ℕ → Bool
+inRange scheme key challenge = argumentsOk (scheme .algorithm) key (Present 0) Absent challenge (scheme .digits)
 
--- a password rule: the digits of a step, from a token's rule, its key and the challenge; `passwordAt` is the standard's
+-- a password rule: the digits of a step, from a token's scheme, its key and the challenge; `passwordAt` is the standard's
 abbrev pub PasswordRule : Type 0
-PasswordRule = Rule → List ℕ → List ℕ → ℕ → List ℕ
+PasswordRule = Scheme → List ℕ → List ℕ → ℕ → List ℕ
 
 -- by a password rule, step s has this password; one of another length it has not
-abbrev pub hasBy : PasswordRule → Rule → List ℕ → List ℕ → List ℕ → ℕ → Bool
-hasBy passwords rule key challenge presented s = sameBytes presented (passwords rule key challenge s)
-
-unfoldable pub hasPassword : Rule → List ℕ → List ℕ → List ℕ → ℕ → Bool
-hasPassword rule key challenge presented s = hasBy passwordAt rule key challenge presented s
+abbrev pub hasBy : PasswordRule → Scheme → List ℕ → List ℕ → List ℕ → ℕ → Bool
+hasBy passwords scheme key challenge presented s = sameBytes presented (passwords scheme key challenge s)

@@ -1,22 +1,14 @@
 -- The checks of a token (document 01, Part 3), over any predicate "step s has this password".
 use Prim.Native.Nat.{ℕ}
 use mathlib.Core.Bool.{Bool}
-use mathlib.Core.List.{List, [], _∷_}
 use Rattle.window.specs.declared.Size.{Size}
 use Rattle.window.specs.declared.Track.{Track}
 use Rattle.window.specs.declared.Outcome.{Outcome}
 use Rattle.window.specs.Window.{candidate, beyond}
 use Rattle.window.specs.Check.{checked, singleHit, pairHit, settled}
-use Rattle.window.specs.PasswordAt.{hasPassword}
 
 unfoldable pub singleCheck : Track → ℕ → Size → (ℕ → Bool) → Outcome
 singleCheck k clock size matches = settled 0 (checked (singleHit (candidate k clock size) matches) (k .next .0) (beyond k clock))
 
 unfoldable pub pairCheck : Track → ℕ → Size → (ℕ → Bool) → (ℕ → Bool) → Outcome
 pairCheck k clock size first second = settled 1 (checked (pairHit (candidate k clock size) first second) (k .next .0) (beyond k clock))
-
--- one presented password is checked alone, with Q if the call has one; two are checked as a pair, which has no Q; an empty second one is none
-unfoldable pub checkOf : Track → ℕ → Size → List ℕ → List ℕ → List ℕ → List ℕ → Outcome
-checkOf k clock size key challenge presented [] = singleCheck k clock size (hasPassword (k .rule) key challenge presented)
-checkOf k clock size key challenge presented (b ∷ following) =
-    pairCheck k clock size (hasPassword (k .rule) key [] presented) (hasPassword (k .rule) key [] (b ∷ following))

@@ -45,17 +45,17 @@ eventCandidate next w s = (leb next (s + 1) && ltb s (next + w)) && ltb s (2 ^ 3
 -- the candidates of a token at a clock reading
 unfoldable pub candidate : Track → ℕ → Size → ℕ → Bool
 candidate k clock size s =
-    cond (eqb (k .rule .kind) timeToken)
+    cond (eqb (k .scheme .kind) timeToken)
     (timeCandidate (stepAt clock (k .period)) (k .offset .0) (timeWidth size) s)
     (eventCandidate (k .next .0) (eventWidth size) s)
 
 -- every candidate lies below this step
 unfoldable pub beyond : Track → ℕ → ℕ
-beyond k clock = cond (eqb (k .rule .kind) timeToken) (stepAt clock (k .period) + farthest + 1) (2 ^ 32)
+beyond k clock = cond (eqb (k .scheme .kind) timeToken) (stepAt clock (k .period) + farthest + 1) (2 ^ 32)
 
 -- what a well-formed row and a clock below 2^40 give; 2^40 + 600 is the step after the last that such a clock lets in
 pub record Sound (k : Track) (clock : ℕ) : Type 0 where
-  pub divided : k .rule .kind ≡ timeToken → 0 < k .period
+  pub divided : k .scheme .kind ≡ timeToken → 0 < k .period
   pub timely : clock < 2 ^ 40
   pub counted : k .next .0 ≤ 2 ^ 40 + farthest
   pub within : k .offset .0 ≤ 2 * farthest

@@ -1,45 +1,22 @@
 -- The candidates are exactly the steps of a computed range, possibly empty.
-use Prim.Native.Nat.{ℕ, suc, _+_, _-_, _^_, _≤_, _<_, min, max}
+use Prim.Native.Nat.{ℕ, suc, _+_, _-_, _^_, _≤_, _<_}
 use mathlib.Core.Path.{_≡_, refl, sym}
 use mathlib.Core.Bool.{Bool, true, false, cond, _&&_}
 use native.Mathlib.Nat.{le-trans, max-le, le-min, le-max-left, le-max-right, min-le-left, min-le-right}
 use native.Mathlib.Omega.{arith}
 use borrow.Author.Tests.{leb-true, ltb-true, le-leb, lt-ltb}
 use lib.Dec.{eqb, leb, ltb}
-use Rattle.words.specs.Tables.{and-left, and-right}
+use Rattle.words.specs.BoolLaws.{and-left, and-right, and-both}
 use Rattle.window.specs.declared.Size.{Size}
 use Rattle.window.specs.declared.Track.{Track}
 use Rattle.window.specs.Window.{timeToken, stepAt, distance, timeWidth, eventWidth, farthest, timeCandidate, eventCandidate, candidate, beyond}
-
--- the range: its first step, and the step where it ends
-abbrev pub timeFirst : ℕ → ℕ → ℕ → ℕ
-timeFirst t offset w = max (t + offset - (farthest + w)) (t - farthest)
-
-abbrev pub timeEnd : ℕ → ℕ → ℕ → ℕ
-timeEnd t offset w = min (t + offset + w + 1 - farthest) (t + farthest + 1)
-
-abbrev pub eventFirst : ℕ → ℕ
-eventFirst next = next - 1
-
-abbrev pub eventEnd : ℕ → ℕ → ℕ
-eventEnd next w = min (next + w) (2 ^ 32)
-
-unfoldable pub firstStep : Track → ℕ → Size → ℕ
-firstStep k clock size =
-    cond (eqb (k .rule .kind) timeToken) (timeFirst (stepAt clock (k .period)) (k .offset .0) (timeWidth size)) (eventFirst (k .next .0))
-
-unfoldable pub endStep : Track → ℕ → Size → ℕ
-endStep k clock size =
-    cond (eqb (k .rule .kind) timeToken) (timeEnd (stepAt clock (k .period)) (k .offset .0) (timeWidth size)) (eventEnd (k .next .0) (eventWidth size))
+use Rattle.window.specs.Range.{timeFirst, timeEnd, eventFirst, eventEnd, firstStep, endStep}
 
 -- two tests agree where each follows from the other
 pub agree : (a b : Bool) → (a ≡ true → b ≡ true) → (b ≡ true → a ≡ true) → a ≡ b
 agree true b p q = sym (p refl)
 agree false true p q = q refl
 agree false false p q = refl
-
-pub and-both : {a b : Bool} → a ≡ true → b ≡ true → a && b ≡ true
-and-both p q = rw (p, q)
 
 -- numbers that lie at most w apart
 near : (a b w : ℕ) → distance a b ≤ w → (a ≤ b + w) × (b ≤ a + w)
@@ -78,12 +55,12 @@ unfolding timeCandidate
 time-range t offset w s =
     agree (leb (distance (s + farthest) (t + offset)) w && leb (distance s t) farthest) (leb (timeFirst t offset w) s && ltb s (timeEnd t offset w))
     (λ h.
-    let p = near (s + farthest) (t + offset) w (leb-true (distance (s + farthest) (t + offset)) w (and-left (leb (distance (s + farthest) (t + offset)) w) (leb (distance s t) farthest) h)) in
-    let q = near s t farthest (leb-true (distance s t) farthest (and-right (leb (distance (s + farthest) (t + offset)) w) (leb (distance s t) farthest) h)) in
+    let p = near (s + farthest) (t + offset) w (leb-true (distance (s + farthest) (t + offset)) w (and-left _ _ h)) in
+    let q = near s t farthest (leb-true (distance s t) farthest (and-right (leb (distance (s + farthest) (t + offset)) w) _ h)) in
     and-both (le-leb (timeFirst t offset w) s (first-le t offset w s (p .1) (q .1))) (lt-ltb s (timeEnd t offset w) (lt-end t offset w s (p .0) (q .0))))
     (λ h.
-    let p = from-first t offset w s (leb-true (timeFirst t offset w) s (and-left (leb (timeFirst t offset w) s) (ltb s (timeEnd t offset w)) h)) in
-    let q = from-end t offset w s (ltb-true s (timeEnd t offset w) (and-right (leb (timeFirst t offset w) s) (ltb s (timeEnd t offset w)) h)) in
+    let p = from-first t offset w s (leb-true (timeFirst t offset w) s (and-left _ _ h)) in
+    let q = from-end t offset w s (ltb-true s (timeEnd t offset w) (and-right (leb (timeFirst t offset w) s) _ h)) in
     and-both (le-leb (distance (s + farthest) (t + offset)) w (nearby (s + farthest) (t + offset) w (q .0) (p .0)))
     (le-leb (distance s t) farthest (nearby s t farthest (q .1) (p .1))))
 
@@ -92,20 +69,20 @@ unfolding eventCandidate
 event-range next w s =
     agree ((leb next (s + 1) && ltb s (next + w)) && ltb s (2 ^ 32)) (leb (eventFirst next) s && ltb s (eventEnd next w))
     (λ h.
-    let ab = and-left (leb next (s + 1) && ltb s (next + w)) (ltb s (2 ^ 32)) h in
-    let p = leb-true next (s + 1) (and-left (leb next (s + 1)) (ltb s (next + w)) ab) in
-    let q = ltb-true s (next + w) (and-right (leb next (s + 1)) (ltb s (next + w)) ab) in
-    let r = ltb-true s (2 ^ 32) (and-right (leb next (s + 1) && ltb s (next + w)) (ltb s (2 ^ 32)) h) in
+    let ab = and-left _ _ h in
+    let p = leb-true next (s + 1) (and-left _ _ ab) in
+    let q = ltb-true s (next + w) (and-right (leb next (s + 1)) _ ab) in
+    let r = ltb-true s (2 ^ 32) (and-right (leb next (s + 1) && ltb s (next + w)) _ h) in
     and-both (le-leb (eventFirst next) s (omega arith)) (lt-ltb s (eventEnd next w) (omega arith)))
     (λ h.
-    let p = leb-true (eventFirst next) s (and-left (leb (eventFirst next) s) (ltb s (eventEnd next w)) h) in
-    let q = ltb-true s (eventEnd next w) (and-right (leb (eventFirst next) s) (ltb s (eventEnd next w)) h) in
+    let p = leb-true (eventFirst next) s (and-left _ _ h) in
+    let q = ltb-true s (eventEnd next w) (and-right (leb (eventFirst next) s) _ h) in
     and-both (and-both (le-leb next (s + 1) (omega arith)) (lt-ltb s (next + w) (omega arith))) (lt-ltb s (2 ^ 32) (omega arith)))
 
 -- the law: for both kinds, every offset, every clock and every next
 pub candidates-are-range : (k : Track) (clock : ℕ) (size : Size) (s : ℕ) → candidate k clock size s ≡ leb (firstStep k clock size) s && ltb s (endStep k clock size)
 unfolding candidate firstStep endStep
-candidates-are-range k clock size s = pick (eqb (k .rule .kind) timeToken)
+candidates-are-range k clock size s = pick (eqb (k .scheme .kind) timeToken)
   where
     pick : (b : Bool)
         → cond b (timeCandidate (stepAt clock (k .period)) (k .offset .0) (timeWidth size) s) (eventCandidate (k .next .0) (eventWidth size) s)
@@ -117,7 +94,7 @@ candidates-are-range k clock size s = pick (eqb (k .rule .kind) timeToken)
 -- no candidate lies at or above `beyond`
 pub end-below : (k : Track) (clock : ℕ) (size : Size) → endStep k clock size ≤ beyond k clock
 unfolding endStep beyond
-end-below k clock size = pick (eqb (k .rule .kind) timeToken)
+end-below k clock size = pick (eqb (k .scheme .kind) timeToken)
   where
     pick : (b : Bool)
         → cond b (timeEnd (stepAt clock (k .period)) (k .offset .0) (timeWidth size)) (eventEnd (k .next .0) (eventWidth size))

@@ -12,10 +12,10 @@ use Rattle.window.specs.Window.{timeCandidate, eventCandidate, candidate
 
 -- a time token with its period and d + 600, and an event token with its first unused step
 abbrev pub timeTrack : ℕ → ℕ → Track
-timeTrack period offset = record { rule = record { kind = 0; algorithm = 3; digits = 6 }; period = period; next = record { 0 = 0 }; offset = record { 0 = offset } }
+timeTrack period offset = record { scheme = record { kind = 0; algorithm = 3; digits = 6 }; period = period; next = record { 0 = 0 }; offset = record { 0 = offset } }
 
 abbrev pub eventTrack : ℕ → Track
-eventTrack next = record { rule = record { kind = 1; algorithm = 3; digits = 6 }; period = 0; next = record { 0 = next }; offset = record { 0 = 600 } }
+eventTrack next = record { scheme = record { kind = 1; algorithm = 3; digits = 6 }; period = 0; next = record { 0 = next }; offset = record { 0 = 600 } }
 
 -- the candidates among `count` steps, from a step on; `candidates-are-range` says that there are no gaps
 unfoldable pub candidatesFrom : ℕ → ℕ → Track → ℕ → Size → List ℕ

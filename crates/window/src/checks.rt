@@ -1,66 +1,30 @@
 // The single and the pair check (document 01, Part 3).
+use crate::Asked;
 use crate::Outcome;
 use crate::Seconds;
 use crate::Size;
 use crate::Track;
-use crate::goal::goal_of;
+use crate::goal::Goal;
+use crate::goal::ahead_by;
+use crate::goal::pair_goal;
+use crate::goal::single_goal;
 use crate::lanes::search_again;
 use crate::lanes::search_first;
-use crate::matching::ahead_of;
-use crate::range::candidates;
-use crate::range::larger;
-use crate::range::smaller;
+use crate::range::ranges_of;
 use crate::search::Found;
 use crate::search::first_match;
 use otp::prepared::prepare;
 ghost use mathlib.Core.Path.{_≡_};
-ghost use mathlib.Core.Bool.{true};
+ghost use mathlib.Core.Bool.{true, false};
 ghost use mathlib.Core.List.{[]};
-ghost use Prim.Native.Nat.{_+_, _≤_, min, max};
+ghost use Prim.Native.Nat.{_≤_, _<_};
+ghost use lib.ListN.{length};
 ghost use Rattle.window.specs.Window.{Sound};
-ghost use Rattle.window.specs.WindowLaws.{firstStep, endStep};
-ghost use Rattle.window.specs.SearchLaws.{usedOrWrong};
-ghost use Rattle.window.specs.TokenCheck.{checkOf};
-ghost use Rattle.window.specs.PasswordAt.{inRange};
-ghost use Rattle.window.specs.PasswordAtLaws.{countsRight};
-
-// Whether the presented passwords have as many digits as the token's.
-fn counts_right(digits: u8, presented: &[u8], following: &[u8]) -> bool
-    ensures { λ r. ⌜ r ≡ countsRight digits (now (presented .entry)) (now (following .entry)) ⌝ }
-{
-    let n = digits as usize;
-    (presented.len() == n) & ((following.len() == 0) | (following.len() == n))
-}
-
-// The candidates in two parts, by the step to accept: used ones from first + ahead up to used, fresh ones from fresh up to end.
-pub struct Parts {
-    pub first: u64,
-    pub end: u64,
-    pub fresh: u64,
-    pub used: u64,
-}
-
-// A pair is fresh if the step before is.
-fn parted(track: Track, clock: Seconds, size: Size, ahead: u64) -> Parts
-    requires { ⌜ Sound track (clock .0) ⌝ }
-    requires { ⌜ ahead ≤ 1 ⌝ }
-    ensures { λ r. ⌜ r .first ≡ firstStep track (clock .0) size ⌝ }
-    ensures { λ r. ⌜ r .end ≡ endStep track (clock .0) size ⌝ }
-    ensures { λ r. ⌜ r .fresh ≡ max (r .first + ahead) (track .next .0 + ahead) ⌝ }
-    ensures { λ r. ⌜ r .used ≡ min (r .end) (track .next .0 + ahead) ⌝ }
-{
-    let range = candidates(track, clock, size);
-    let first = range.first.0 + ahead;
-    let end = range.end.0;
-    let fresh = larger(first, track.next.0 + ahead);
-    let used = smaller(end, track.next.0 + ahead);
-    Parts {
-        first: range.first.0,
-        end,
-        fresh,
-        used,
-    }
-}
+ghost use Rattle.window.specs.Range.{rangesOf};
+ghost use Rattle.window.specs.Search.{usedOrWrong, searched};
+ghost use Rattle.window.specs.Goal.{aheadBy, hitsAt, cutAt};
+ghost use Rattle.window.specs.PasswordAt.{passwordAt, inRange};
+ghost use Rattle.window.specs.Asked.{outcomeOf};
 
 // What a search of the used steps means.
 fn used_or_wrong(found: Found) -> Outcome
@@ -72,101 +36,113 @@ fn used_or_wrong(found: Found) -> Outcome
     }
 }
 
-// One password with a challenge, one step after the other. Steps that could be accepted are searched, fresh ones first: if one matches, no used one counts.
-fn searched(
+// One password with a challenge. Fresh steps are searched first: if one matches, no used one counts.
+fn searched_with(
     track: Track,
     clock: Seconds,
     size: Size,
     key: &[u8],
     challenge: &[u8],
-    presented: &[u8],
+    goal: Goal,
 ) -> Outcome
     requires { ⌜ Sound track (clock .0) ⌝ }
-    requires { ⌜ inRange (track .rule) (now key) (now challenge) ≡ true ⌝ }
-    ensures { λ r. ⌜ r ≡ checkOf track (clock .0) size (now (key .entry)) (now (challenge .entry)) (now (presented .entry)) [] ⌝ }
+    requires { ⌜ 16 ≤ length (now key) ⌝ }
+    requires { ⌜ length (now key) ≤ 32 ⌝ }
+    requires { ⌜ length (now challenge) ≤ 32 ⌝ }
+    requires { ⌜ 0 < goal .modulus ⌝ }
+    requires { ⌜ goal .pair ≡ false ⌝ }
+    ensures { λ r. ⌜ r ≡ searched (hitsAt goal (cutAt (track .scheme) (now (key .entry)) (now (challenge .entry)))) (rangesOf track (clock .0) size 0) ⌝ }
 {
-    let keys = prepare(track.rule.algorithm, key);
-    let ranges = parted(track, clock, size, 0);
-    if let Found::At(a) = first_match(
-        track.rule,
+    let scheme = track.scheme;
+    let keys = prepare(scheme.algorithm, key);
+    let ranges = ranges_of(track, clock, size, 0);
+    let fresh = first_match(
+        goal,
+        scheme,
         key,
         &keys,
         challenge,
-        presented,
         ranges.fresh,
         ranges.end,
-    ) {
+    );
+    if let Found::At(a) = fresh {
         return Outcome::Accepted(a);
     }
     used_or_wrong(first_match(
-        track.rule,
+        goal,
+        scheme,
         key,
         &keys,
         challenge,
-        presented,
         ranges.first,
         ranges.used,
     ))
 }
 
-// The same for one password without a challenge or for a pair, several steps at once. SM4's first make the round keys, which serve all later ones.
+// One password without a challenge, or a pair, several steps at once. SM4's first make the round keys, which serve all later ones.
 // Where the fresh steps begin with the first unused one, that is the likeliest.
-fn searched_in_lanes(
-    track: Track,
-    clock: Seconds,
-    size: Size,
-    key: &[u8],
-    presented: &[u8],
-    following: &[u8],
-) -> Outcome
+fn searched(track: Track, clock: Seconds, size: Size, key: &[u8], goal: Goal) -> Outcome
     requires { ⌜ Sound track (clock .0) ⌝ }
-    requires { ⌜ inRange (track .rule) (now key) [] ≡ true ⌝ }
-    requires { ⌜ countsRight (track .rule .digits) (now presented) (now following) ≡ true ⌝ }
-    ensures { λ r. ⌜ r ≡ checkOf track (clock .0) size (now (key .entry)) [] (now (presented .entry)) (now (following .entry)) ⌝ }
+    requires { ⌜ 16 ≤ length (now key) ⌝ }
+    requires { ⌜ length (now key) ≤ 32 ⌝ }
+    requires { ⌜ 0 < goal .modulus ⌝ }
+    ensures { λ r. ⌜ r ≡ searched (hitsAt goal (cutAt (track .scheme) (now (key .entry)) [])) (rangesOf track (clock .0) size (aheadBy goal)) ⌝ }
 {
-    let goal = goal_of(track.rule.digits, presented, following);
-    let rule = track.rule;
-    let ahead = ahead_of(following);
-    let ranges = parted(track, clock, size, ahead);
-    let first = ranges.first + ahead;
+    let scheme = track.scheme;
+    let ranges = ranges_of(track, clock, size, ahead_by(goal));
     let mut keys = [0u32; 32];
-    if ranges.end <= ranges.fresh {
-        return used_or_wrong(search_first(goal, rule, key, false, first, ranges.used, &mut keys));
+    if ranges.end.0 <= ranges.fresh.0 {
+        return used_or_wrong(search_first(
+            goal,
+            scheme,
+            key,
+            false,
+            ranges.first,
+            ranges.used,
+            &mut keys,
+        ));
     }
-    let is_next = ranges.fresh == ranges.used;
-    if let Found::At(a) = search_first(
+    let is_next = ranges.fresh.0 == ranges.used.0;
+    let fresh = search_first(
         goal,
-        rule,
+        scheme,
         key,
         is_next,
         ranges.fresh,
         ranges.end,
         &mut keys,
-    ) {
+    );
+    if let Found::At(a) = fresh {
         return Outcome::Accepted(a);
     }
-    used_or_wrong(search_again(goal, rule, key, &keys, first, ranges.used))
+    used_or_wrong(search_again(goal, scheme, key, &keys, ranges.first, ranges.used))
 }
 
-// The check of one presented password, or of two as a pair; following is empty where there is one. A pair has no challenge.
-pub fn check(
-    track: Track,
-    clock: Seconds,
-    size: Size,
-    key: &[u8],
-    challenge: &[u8],
-    presented: &[u8],
-    following: &[u8],
-) -> Outcome
+// What is asked of a token: a password whose count of digits is not the token's is wrong, and nothing is searched.
+pub fn check(track: Track, clock: Seconds, key: &[u8], challenge: &[u8], asked: Asked) -> Outcome
     requires { ⌜ Sound track (clock .0) ⌝ }
-    requires { ⌜ inRange (track .rule) (now key) (now challenge) ≡ true ⌝ }
-    ensures { λ r. ⌜ r ≡ checkOf track (clock .0) size (now (key .entry)) (now (challenge .entry)) (now (presented .entry)) (now (following .entry)) ⌝ }
+    requires { ⌜ inRange (track .scheme) (now key) (now challenge) ≡ true ⌝ }
+    ensures { λ r. ⌜ r ≡ outcomeOf passwordAt track (clock .0) (now (key .entry)) (now (challenge .entry)) asked ⌝ }
 {
-    if !counts_right(track.rule.digits, presented, following) {
-        return Outcome::Wrong;
+    let digits = track.scheme.digits;
+    match asked {
+        Asked::One(size, p) => {
+            if p.digits != digits {
+                return Outcome::Wrong;
+            }
+            searched(track, clock, size, key, single_goal(p))
+        }
+        Asked::Challenged(size, p) => {
+            if p.digits != digits {
+                return Outcome::Wrong;
+            }
+            searched_with(track, clock, size, key, challenge, single_goal(p))
+        }
+        Asked::Two(size, p, q) => {
+            if (p.digits != digits) | (q.digits != digits) {
+                return Outcome::Wrong;
+            }
+            searched(track, clock, size, key, pair_goal(p, q))
+        }
     }
-    if (challenge.len() != 0) & (following.len() == 0) {
-        return searched(track, clock, size, key, challenge, presented);
-    }
-    searched_in_lanes(track, clock, size, key, presented, following)
 }

@@ -1,12 +1,11 @@
 // What is searched for: the presented passwords as numbers, and which cuts of steps have them.
-use otp::number::number_of;
 use otp::number::ten_to;
+use otp::typed::Password;
 ghost use mathlib.Core.Path.{_≡_};
 ghost use Prim.Native.Nat.{_%_, _≤_, _<_};
-ghost use lib.ListN.{length};
-ghost use Rattle.window.specs.Lanes.{goalOf, aheadBy, hits};
+ghost use Rattle.window.specs.Goal.{singleGoal, pairGoal, aheadBy, hits};
 
-// The numbers that are searched for: of a pair, that of the step before the accepted one and that of the accepted one.
+// The numbers that are searched for: that of the accepted step and, of a pair, that of the step before it.
 pub struct Goal {
     pub pair: bool,
     pub modulus: u64,
@@ -14,28 +13,31 @@ pub struct Goal {
     pub last: u64,
 }
 
-pub(crate) fn goal_of(digits: u8, presented: &[u8], following: &[u8]) -> Goal
-    requires { ⌜ digits ≤ 10 ⌝ }
-    requires { ⌜ length (now presented) ≤ 10 ⌝ }
-    requires { ⌜ length (now following) ≤ 10 ⌝ }
-    ensures { λ r. ⌜ r ≡ goalOf digits (now (presented .entry)) (now (following .entry)) ⌝ }
+// One password.
+pub(crate) fn single_goal(p: Password) -> Goal
+    requires { ⌜ p .digits ≤ 10 ⌝ }
+    ensures { λ r. ⌜ r ≡ singleGoal p ⌝ }
 {
-    let modulus = ten_to(digits as usize);
-    let before = number_of(presented);
-    if following.len() == 0 {
-        return Goal {
-            pair: false,
-            modulus,
-            before,
-            last: before,
-        };
+    let modulus = ten_to(p.digits as usize);
+    Goal {
+        pair: false,
+        modulus,
+        before: 0,
+        last: p.number % modulus,
     }
-    let last = number_of(following);
+}
+
+// Two in a row, of as many digits.
+pub(crate) fn pair_goal(p: Password, q: Password) -> Goal
+    requires { ⌜ p .digits ≤ 10 ⌝ }
+    ensures { λ r. ⌜ r ≡ pairGoal p q ⌝ }
+{
+    let modulus = ten_to(p.digits as usize);
     Goal {
         pair: true,
         modulus,
-        before,
-        last,
+        before: p.number % modulus,
+        last: q.number % modulus,
     }
 }
 

@@ -1,15 +1,16 @@
 // Steps and windows (document 01, Part 3).
 mod arguments;
+mod asked;
 mod checks;
 mod goal;
 mod lanes;
-mod matching;
 mod parts;
 mod range;
 mod search;
 
 pub use arguments::CLOCKS;
 pub use arguments::in_range;
+pub use asked::Asked;
 pub use checks::check;
 pub use range::COUNTS;
 pub use range::FARTHEST;
@@ -38,15 +39,15 @@ pub enum Size {
 }
 
 // How a token's passwords are made: its kind (0 time, 1 event), its algorithm (3 SM3, 4 SM4) and its count of digits.
-pub struct Rule {
+pub struct Scheme {
     pub kind: u8,
     pub algorithm: u8,
     pub digits: u8,
 }
 
-// What a check needs of a token: the rule of its passwords, the period in seconds, the first unused step, and the offset.
+// What a check reads of a token: how its passwords are made, the period in seconds, the first unused step, and the offset.
 pub struct Track {
-    pub rule: Rule,
+    pub scheme: Scheme,
     pub period: u8,
     pub next: Step,
     pub offset: Offset,

@@ -1,5 +1,5 @@
 // A part of the search: the cuts of several steps are made side by side, and numbers are compared.
-use crate::Rule;
+use crate::Scheme;
 use crate::Step;
 use crate::TIME_TOKEN;
 use crate::goal::Goal;
@@ -11,31 +11,32 @@ use otp::lists::MOST_CUTS;
 use otp::lists::put_cuts;
 use otp::lists::put_first_cuts;
 ghost use mathlib.Core.Path.{_≡_};
+ghost use mathlib.Core.List.{[]};
 ghost use Prim.Native.Nat.{_+_, _-_, _^_, _≤_, _<_, min};
 ghost use lib.ListN.{length};
 ghost use Rattle.otp.specs.StepCuts.{cutsFrom};
 ghost use Rattle.otp.specs.CutLists.{width, Keyed};
-ghost use Rattle.window.specs.CheckLaws.{sweep};
-ghost use Rattle.window.specs.SearchLaws.{foundOf};
-ghost use Rattle.window.specs.Lanes.{aheadBy, cutAt, listTest, priorOf, partOf, Within, firstPart};
+ghost use Rattle.window.specs.Search.{firstHit};
+ghost use Rattle.window.specs.Goal.{aheadBy, cutAt};
+ghost use Rattle.window.specs.Lanes.{hitsIn, priorOf, partOf, Within, firstPart};
 
 // What a part of a search finds, the last of its cuts, and the step where the next part begins.
 pub struct Part {
     pub found: Found,
     pub last: u32,
-    pub next: u64,
+    pub next: Step,
 }
 
 // The first hit among cuts of the steps from s on, below end; before is the cut of the step before s.
-fn first_among(goal: Goal, before: u32, cuts: &[u32], s: u64, end: u64) -> Found
+fn first_among(goal: Goal, before: u32, cuts: &[u32], s: Step, end: Step) -> Found
     requires { ⌜ 0 < goal .modulus ⌝ }
-    requires { ⌜ s + length (now cuts) < 2 ^ 63 ⌝ }
-    ensures { λ r. ⌜ r ≡ foundOf (sweep (listTest goal before (now (cuts .entry)) s) s (min (s + length (now (cuts .entry))) end - s)) ⌝ }
+    requires { ⌜ s .0 + length (now cuts) < 2 ^ 63 ⌝ }
+    ensures { λ r. ⌜ r ≡ firstHit (hitsIn goal before (now (cuts .entry)) (s .0)) (s .0) (min (s .0 + length (now (cuts .entry))) (end .0)) ⌝ }
 {
-    let stop = smaller(s + cuts.len() as u64, end);
+    let stop = smaller(s.0 + cuts.len() as u64, end.0);
     let mut prior = before;
     let mut i = 0;
-    let mut a = s;
+    let mut a = s.0;
     loop {
         if stop <= a {
             break Found::Nowhere;
@@ -56,13 +57,15 @@ fn prior_of(ahead: u64, before: u32, start: u32) -> u32
     if ahead == 0 { before } else { start }
 }
 
-// The part from s on whose cuts are made: they begin ahead of s with the step before, or before is that step's.
-fn part_of(goal: Goal, ahead: u64, before: u32, cuts: &[u32], s: u64, end: u64) -> Part
+// The part of the search from step s on, below end, by the cuts of consecutive steps. Of a pair, each step is looked at with the one before it: that of s
+// is `before` where ahead is 0, and the first of the cuts where ahead is 1. So with s 100, ahead 1 and three cuts, those are of steps 99, 100 and 101:
+// 100 and 101 are searched, and the next part begins at 102.
+fn part_of(goal: Goal, ahead: u64, before: u32, cuts: &[u32], s: Step, end: Step) -> Part
     requires { ⌜ 0 < goal .modulus ⌝ }
     requires { ⌜ ahead < length (now cuts) ⌝ }
     requires { ⌜ length (now cuts) ≤ 5 ⌝ }
-    requires { ⌜ s ≤ 2 ^ 62 ⌝ }
-    ensures { λ r. ⌜ r ≡ partOf goal ahead before (now (cuts .entry)) s end ⌝ }
+    requires { ⌜ s .0 ≤ 2 ^ 62 ⌝ }
+    ensures { λ r. ⌜ r ≡ partOf goal ahead before (now (cuts .entry)) (s .0) (end .0) ⌝ }
 {
     let made = cuts.len();
     let skipped = ahead as usize;
@@ -72,37 +75,37 @@ fn part_of(goal: Goal, ahead: u64, before: u32, cuts: &[u32], s: u64, end: u64) 
     Part {
         found,
         last,
-        next: s + (made - skipped) as u64,
+        next: Step(s.0 + (made - skipped) as u64),
     }
 }
 
 // The part from s on.
 pub(crate) fn next_part(
     goal: Goal,
-    rule: Rule,
+    scheme: Scheme,
     key: &[u8],
     keys: &[u32],
     ahead: u64,
     before: u32,
-    s: u64,
-    end: u64,
+    s: Step,
+    end: Step,
 ) -> Part
     requires { ⌜ 0 < goal .modulus ⌝ }
     requires { ⌜ length (now key) ≤ 32 ⌝ }
-    requires { ⌜ Keyed (rule .algorithm) (now key) (now keys) ⌝ }
-    requires { ⌜ Within ahead s end ⌝ }
-    ensures { λ r. ⌜ r ≡ partOf goal ahead before (cutsFrom (cutAt rule (now (key .entry))) (width (rule .algorithm) (end - (s - ahead))) (s - ahead)) s end ⌝ }
+    requires { ⌜ Keyed (scheme .algorithm) (now key) (now keys) ⌝ }
+    requires { ⌜ Within ahead (s .0) (end .0) ⌝ }
+    ensures { λ r. ⌜ r ≡ partOf goal ahead before (cutsFrom (cutAt scheme (now (key .entry)) []) (width (scheme .algorithm) (end .0 - (s .0 - ahead))) (s .0 - ahead)) (s .0) (end .0) ⌝ }
 {
-    let timed = rule.kind == TIME_TOKEN;
-    let start = s - ahead;
+    let timed = scheme.kind == TIME_TOKEN;
+    let start = s.0 - ahead;
     let mut cuts = [0u32; MOST_CUTS];
     let made = put_cuts(
-        rule.algorithm,
+        scheme.algorithm,
         key,
         keys,
         timed,
         start,
-        end - start,
+        end.0 - start,
         &mut cuts,
     );
     part_of(goal, ahead, before, &cuts[0..made], s, end)
@@ -112,32 +115,32 @@ pub(crate) fn next_part(
 // SM4's round keys are left in keys.
 pub(crate) fn first_part(
     goal: Goal,
-    rule: Rule,
+    scheme: Scheme,
     key: &[u8],
     likely: bool,
-    first: u64,
-    end: u64,
+    first: Step,
+    end: Step,
     keys: &mut [u32],
 ) -> Part
     requires { ⌜ 0 < goal .modulus ⌝ }
     requires { ⌜ 16 ≤ length (now key) ⌝ }
     requires { ⌜ length (now key) ≤ 32 ⌝ }
     requires { ⌜ length (now keys) ≡ 32 ⌝ }
-    requires { ⌜ Within (aheadBy goal) first end ⌝ }
-    ensures { λ r. ⌜ r ≡ firstPart goal rule (now (key .entry)) likely first end ⌝ }
-    ensures { λ _. ⌜ Keyed (rule .algorithm) (now (key .entry)) (now (keys .exit)) ⌝ }
+    requires { ⌜ Within (aheadBy goal) (first .0) (end .0) ⌝ }
+    ensures { λ r. ⌜ r ≡ firstPart goal scheme (now (key .entry)) likely (first .0) (end .0) ⌝ }
+    ensures { λ _. ⌜ Keyed (scheme .algorithm) (now (key .entry)) (now (keys .exit)) ⌝ }
 {
-    let timed = rule.kind == TIME_TOKEN;
+    let timed = scheme.kind == TIME_TOKEN;
     let ahead = ahead_by(goal);
-    let start = first - ahead;
+    let start = first.0 - ahead;
     let alone = likely & !goal.pair;
     let mut cuts = [0u32; MOST_CUTS];
     let made = put_first_cuts(
-        rule.algorithm,
+        scheme.algorithm,
         key,
         timed,
         start,
-        end - start,
+        end.0 - start,
         alone,
         &mut cuts,
         keys,

@@ -1,4 +1,4 @@
-// The candidates of a token as a range of steps, possibly empty.
+// The candidates of a token as a range of steps, possibly empty, and its fresh and used ones.
 use crate::Seconds;
 use crate::Size;
 use crate::Step;
@@ -7,7 +7,7 @@ use crate::Track;
 ghost use mathlib.Core.Path.{_≡_};
 ghost use Prim.Native.Nat.{_-_, _^_, _≤_, _<_, min, max};
 ghost use Rattle.window.specs.Window.{stepAt, timeWidth, eventWidth, Sound};
-ghost use Rattle.window.specs.WindowLaws.{timeFirst, timeEnd, eventFirst, eventEnd, firstStep, endStep};
+ghost use Rattle.window.specs.Range.{timeFirst, timeEnd, eventFirst, eventEnd, firstStep, endStep, rangesOf};
 
 // The farthest that a step may lie from T, and d from 0.
 pub const FARTHEST: u64 = 600;
@@ -64,7 +64,7 @@ fn less(a: u64, b: u64) -> u64
     if b <= a { a - b } else { 0 }
 }
 
-pub(crate) fn larger(a: u64, b: u64) -> u64
+fn larger(a: u64, b: u64) -> u64
     ensures { λ r. ⌜ r ≡ max a b ⌝ }
 {
     if a <= b { b } else { a }
@@ -94,15 +94,15 @@ fn time_range(t: Step, offset: u64, w: u64) -> Range
 }
 
 // An event token's candidates: from the last used step on.
-fn event_range(next: u64, w: u64) -> Range
-    requires { ⌜ next < 2 ^ 41 ⌝ }
+fn event_range(next: Step, w: u64) -> Range
+    requires { ⌜ next .0 < 2 ^ 41 ⌝ }
     requires { ⌜ w ≤ 50 ⌝ }
-    ensures { λ r. ⌜ r .first .0 ≡ eventFirst next ⌝ }
-    ensures { λ r. ⌜ r .end .0 ≡ eventEnd next w ⌝ }
+    ensures { λ r. ⌜ r .first .0 ≡ eventFirst (next .0) ⌝ }
+    ensures { λ r. ⌜ r .end .0 ≡ eventEnd (next .0) w ⌝ }
 {
     Range {
-        first: Step(less(next, 1)),
-        end: Step(smaller(next + w, COUNTS)),
+        first: Step(less(next.0, 1)),
+        end: Step(smaller(next.0 + w, COUNTS)),
     }
 }
 
@@ -112,9 +112,37 @@ pub fn candidates(track: Track, clock: Seconds, size: Size) -> Range
     ensures { λ r. ⌜ r .first .0 ≡ firstStep track (clock .0) size ⌝ }
     ensures { λ r. ⌜ r .end .0 ≡ endStep track (clock .0) size ⌝ }
 {
-    if track.rule.kind == TIME_TOKEN {
+    if track.scheme.kind == TIME_TOKEN {
         let t = step_at(clock, track.period);
         return time_range(t, track.offset.0 as u64, time_width(size));
     }
-    event_range(track.next.0, event_width(size))
+    event_range(track.next, event_width(size))
+}
+
+// The candidates in two ranges, by the step to accept: used ones from first up to used, fresh ones from fresh up to end.
+pub struct Ranges {
+    pub first: Step,
+    pub used: Step,
+    pub fresh: Step,
+    pub end: Step,
+}
+
+// The step to accept stands `ahead` of the first that matches: 1 for a pair, which is fresh if its first step is.
+pub(crate) fn ranges_of(track: Track, clock: Seconds, size: Size, ahead: u64) -> Ranges
+    requires { ⌜ Sound track (clock .0) ⌝ }
+    requires { ⌜ ahead ≤ 1 ⌝ }
+    ensures { λ r. ⌜ r ≡ rangesOf track (clock .0) size ahead ⌝ }
+{
+    let range = candidates(track, clock, size);
+    let first = range.first.0 + ahead;
+    let end = range.end;
+    let next = track.next.0 + ahead;
+    let used = smaller(end.0, next);
+    let fresh = larger(first, next);
+    Ranges {
+        first: Step(first),
+        used: Step(used),
+        fresh: Step(fresh),
+        end,
+    }
 }

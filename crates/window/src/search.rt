@@ -1,15 +1,17 @@
-// The search for a step that has a presented password.
-use crate::Rule;
+// The search with a challenge, one step after the other.
+use crate::Scheme;
 use crate::Step;
-use crate::matching::has_password;
+use crate::TIME_TOKEN;
+use crate::goal::Goal;
+use crate::goal::hits;
+use otp::prepared::cut_with;
 ghost use mathlib.Core.Path.{_≡_};
-ghost use mathlib.Core.Bool.{true};
-ghost use Prim.Native.Nat.{_-_};
-ghost use Rattle.otp.specs.ChainLaws.{prepared};
-ghost use Rattle.window.specs.PasswordAt.{inRange, hasPassword};
-ghost use Rattle.window.specs.PasswordAtLaws.{EndOk};
-ghost use Rattle.window.specs.CheckLaws.{sweep};
-ghost use Rattle.window.specs.SearchLaws.{foundOf};
+ghost use mathlib.Core.Bool.{false};
+ghost use Prim.Native.Nat.{_≤_, _<_};
+ghost use lib.ListN.{length};
+ghost use Rattle.otp.specs.CutLists.{Keyed};
+ghost use Rattle.window.specs.Search.{firstHit};
+ghost use Rattle.window.specs.Goal.{hitsAt, cutAt};
 
 // What a search finds.
 pub enum Found {
@@ -17,27 +19,31 @@ pub enum Found {
     Nowhere,
 }
 
-// The smallest step from first up to, not including, end that has the password.
+// The smallest step from first up to, not including, end whose password with the challenge is the goal's.
 pub(crate) fn first_match(
-    rule: Rule,
+    goal: Goal,
+    scheme: Scheme,
     key: &[u8],
     keys: &[u32],
     challenge: &[u8],
-    presented: &[u8],
-    first: u64,
-    end: u64,
+    first: Step,
+    end: Step,
 ) -> Found
-    requires { ⌜ inRange rule (now key) (now challenge) ≡ true ⌝ }
-    requires { ⌜ now keys ≡ prepared (rule .algorithm) (now key) ⌝ }
-    requires { ⌜ EndOk (rule .kind) end ⌝ }
-    ensures { λ r. ⌜ r ≡ foundOf (sweep (hasPassword rule (now (key .entry)) (now (challenge .entry)) (now (presented .entry))) first (end - first)) ⌝ }
+    requires { ⌜ 0 < goal .modulus ⌝ }
+    requires { ⌜ goal .pair ≡ false ⌝ }
+    requires { ⌜ length (now key) ≤ 32 ⌝ }
+    requires { ⌜ length (now challenge) ≤ 32 ⌝ }
+    requires { ⌜ Keyed (scheme .algorithm) (now key) (now keys) ⌝ }
+    ensures { λ r. ⌜ r ≡ firstHit (hitsAt goal (cutAt scheme (now (key .entry)) (now (challenge .entry)))) (first .0) (end .0) ⌝ }
 {
-    let mut s = first;
+    let timed = scheme.kind == TIME_TOKEN;
+    let mut s = first.0;
     loop {
-        if end <= s {
+        if end.0 <= s {
             break Found::Nowhere;
         }
-        if has_password(rule, key, keys, challenge, presented, s) {
+        let cut = cut_with(scheme.algorithm, key, keys, challenge, timed, s);
+        if hits(goal, 0, cut) {
             break Found::At(Step(s));
         }
         s += 1;

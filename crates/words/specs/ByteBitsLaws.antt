@@ -7,7 +7,7 @@ use borrow.Author.Tests.{eqb-true, eqb-false, ltb-true, ltb-false}
 use lib.Dec.{eqb, ltb}
 use lib.Bits.{bitAnd, bitXor, and-shr, and-high, and-zero-l, and-zero-r, shifted-even, shifted-half}
 use lib.Count.{trailingZeros}
-use Rattle.words.specs.ListsLaws.{by-test}
+use Rattle.words.specs.BoolLaws.{by-test}
 use Rattle.words.specs.WordsLaws.{xor-cancel}
 
 pub xor-zero : (a b : ℕ) → bitXor a b ≡ 0 → a ≡ b

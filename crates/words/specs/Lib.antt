@@ -9,9 +9,9 @@ pub mod ListsLaws
 pub mod SumLaws
 pub mod SwapLaws
 pub mod ByteBitsLaws
-pub mod Tables
+pub mod Entries
 pub mod Codes
 pub mod CopyLaws
 pub mod Output
 pub mod OutputLaws
-pub mod Branches
+pub mod BoolLaws

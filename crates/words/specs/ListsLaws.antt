@@ -10,19 +10,7 @@ use lib.Dec.{eqb, leb}
 use lib.ListN.{length, getD, drop, replicate, drop-of-length-le}
 use lib.Seq.{drop-cons}
 use Rattle.words.specs.Lists.{sameBytes, allZero, allWithin}
-use Rattle.words.specs.Tables.{and-left, and-right}
-
-pub and-true : (b : Bool) → b && true ≡ b
-and-true true = refl
-and-true false = refl
-
-pub and-false : (b : Bool) → b && false ≡ false
-and-false true = refl
-and-false false = refl
-
-pub and-assoc : (a b c : Bool) → (a && b) && c ≡ a && (b && c)
-and-assoc true b c = refl
-and-assoc false b c = refl
+use Rattle.words.specs.BoolLaws.{and-left, and-right, and-true, and-false, and-assoc}
 
 -- the test says that the lists are equal
 pub same-equal : (a b : List ℕ) → sameBytes a b ≡ true → a ≡ b
@@ -78,11 +66,6 @@ drop-replicate (suc k) (suc n) a = let e : suc n - suc k ≡ n - k = omega arith
 
 pub drop-zeros : (k n : ℕ) → drop k (replicate {A = ℕ} n 0) ≡ replicate (n - k) 0
 drop-zeros k n = drop-replicate k n 0
-
--- a test comes out one way or the other
-pub by-test : {A : Type 0} (b : Bool) → (b ≡ true → A) → (b ≡ false → A) → A
-by-test true p q = p refl
-by-test false p q = q refl
 
 -- ---- allWithin
 

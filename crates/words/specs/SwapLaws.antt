@@ -13,7 +13,7 @@ use lib.Seq.{drop-cons, take-add, drop-drop, take-length}
 use Rattle.words.specs.Bytes.{AreBytes, beAt, leAt, swapBytes, beBytes}
 use Rattle.words.specs.BytesLaws.{beAt-split, beAt-beBytes}
 use Rattle.words.specs.Lists.{allZero}
-use Rattle.words.specs.ListsLaws.{and-assoc, by-test}
+use Rattle.words.specs.BoolLaws.{and-assoc, by-test, impossible}
 
 -- the first byte apart
 pub leAt-front : (k : ℕ) (s : List ℕ) (at : ℕ) → leAt (suc k) s at ≡ getD s at 0 + 256 * leAt k s (suc at)
@@ -139,7 +139,7 @@ and-overlap false b c = refl
 pub neither-end : (n : ℕ) → ltb n 8 || ltb 16 n ≡ false → (8 ≤ n) × (n ≤ 16)
 neither-end n t =
     by-test (ltb n 8)
-    (λ p. let f : true ≡ false = rw p at t in let z : _≡_ {A = ℕ} 0 1 = cc in absurd (omega arith))
+    (λ p. let f : true ≡ false = rw p at t in impossible (cc))
     (λ p. (ltb-false n 8 p, ltb-false 16 n (rw p at t)))
 
 -- eight to sixteen bytes are the first eight and the last eight

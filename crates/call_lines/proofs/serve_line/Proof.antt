@@ -1,6 +1,4 @@
-use mathlib.Core.Path.{ap, _∙_}
-use Rattle.token.specs.declared.answers.Answer.{Answer}
-use Rattle.call_lines.specs.Line.{answerText, lineAfter, printedOf}
+use Rattle.call_lines.specs.LineLaws.{line-left}
 use borrow.Author.Needs.{needs}
 use Rattle.call_lines.proofs.serve_line.Statement.{statement}
 use Rattle.call_lines.proofs.serve_line.Tie as tie
@@ -15,8 +13,7 @@ same-length : tie.Need-same-length
 same-length c = search needs
 
 returns : tie.Need-returns
-unfolding lineAfter
-returns c = (c .answer-text .ensures .0 ∙ ap (λ (x : Answer). printedOf (answerText x)) (c .before .before .before .line-call .ensures .0), (c .answer-text .ensures .1, c .before .before .before .line-call .ensures .1))
+returns c = (line-left _ _ _ (c .before .before .before .line-call .ensures) (c .answer-text .ensures .0), c .answer-text .ensures .1)
 
 pub serve-line-spec : {M : Type 1} → statement M
 serve-line-spec = tie.close (tie.spec line-call-requires answer-text-requires same-length returns)

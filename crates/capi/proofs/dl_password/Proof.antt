@@ -1,3 +1,4 @@
+use Rattle.capi.specs.StoredLaws.{left-both}
 use borrow.Author.Needs.{needs}
 use Rattle.capi.proofs.dl_password.Statement.{statement}
 use Rattle.capi.proofs.dl_password.Tie as tie
@@ -15,7 +16,7 @@ same-length : tie.Need-same-length
 same-length c = search needs
 
 returns : tie.Need-returns
-returns c = rw (c .before .before .before .before .before .factor .ensures, c .before .before .before .before .factor2 .ensures) at (c .before .before .password .ensures)
+returns c = left-both (rw (c .before .before .before .before .before .factor .ensures, c .before .before .before .before .factor2 .ensures) at (c .before .before .password .ensures))
 
 pub dl-password-spec : {M : Type 1} → statement M
 dl-password-spec =

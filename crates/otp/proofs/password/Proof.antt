@@ -1,7 +1,6 @@
 use borrow.Author.Needs.{needs}
 use mathlib.Core.Path.{sym, _∙_}
 use borrow.Author.Tests.{not-true, not-false}
-use lib.ListN.{drop}
 use Rattle.otp.specs.PasswordLaws.{password-shown, answer-refused, answer-short, answer-stored}
 use Rattle.otp.proofs.password.Statement.{statement}
 use Rattle.otp.proofs.password.Tie as tie
@@ -11,8 +10,9 @@ arguments-ok-requires c κs = search needs
 
 returns : tie.Need-returns
 returns c =
+    let arguments-ok = c .before .arguments-ok in
     let args = c .before .before .before .before .before .args in
-    answer-refused (args .algorithm) (args .key .now) (args .time) (args .count) (args .challenge .now) (args .digits) (args .out .now) (sym (c .before .arguments-ok .ensures) ∙ not-true (c .before .arguments-ok .result) (c .if1 .taken))
+    answer-refused (args .algorithm) (args .key .now) (args .time) (args .count) (args .challenge .now) (args .digits) (args .out .now) (sym (arguments-ok .ensures) ∙ not-true (arguments-ok .result) (c .if1 .taken))
 
 returns-2 : tie.Need-returns-2
 returns-2 c =
@@ -31,13 +31,12 @@ same-length c = search needs
 
 returns-3 : tie.Need-returns-3
 returns-3 c =
-    let args = c .before .before .before .before .before .before .before .before .before .before .before .args in
     let arguments-ok = c .before .before .before .before .before .before .before .arguments-ok in
     let if1 = c .before .before .before .before .before .before .if1 in
-    let if2 = c .before .before .before .before .before .if2 in
     let truncated-once = c .before .before .before .before .truncated-once in
-    let put-decimals = c .before .before .put-decimals in
-    answer-stored (args .algorithm) (args .key .now) (args .time) (args .count) (args .challenge .now) (args .digits) (args .out .now) (sym (arguments-ok .ensures) ∙ not-false (arguments-ok .result) (if1 .left)) (if2 .left) (put-decimals .ensures ∙ password-shown (args .algorithm) (args .key .now) (args .time) (args .count) (args .challenge .now) (args .digits) (drop (args .digits) (args .out .now)) (truncated-once .ensures))
+    let if2 = c .before .before .before .before .before .if2 in
+    let shown = password-shown _ _ _ _ _ _ _ (truncated-once .ensures) in
+    answer-stored _ _ _ _ _ _ _ (sym (arguments-ok .ensures) ∙ not-false _ (if1 .left)) (if2 .left) (c .before .before .put-decimals .ensures ∙ shown)
 
 pub password-spec : {M : Type 1} → statement M
 password-spec =

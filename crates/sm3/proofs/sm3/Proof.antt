@@ -39,7 +39,13 @@ slice-aggregate-iterate-3 : tie.Need-slice-aggregate-iterate-3
 slice-aggregate-iterate-3 c = search needs
 
 iterate-requires-2 : tie.Need-iterate-requires-2
-iterate-requires-2 c κs = let room = rw (← c .before .before .before .before .before .before .before .before .before .last-blocks .ensures) at (last-blocks-fit (length (c .before .before .before .before .before .before .before .before .before .before .before .before .before .args .message .now))) in (omega (arith, c .before .before .before .before .before .before .before .put-end .kept .1 .1 .0), c .before .before .before .before .before .before .before .before .before .before .constants .ensures)
+iterate-requires-2 c κs =
+    let args = c .before .before .before .before .before .before .before .before .before .before .before .before .before .args in
+    let constants = c .before .before .before .before .before .before .before .before .before .before .constants in
+    let last-blocks = c .before .before .before .before .before .before .before .before .before .last-blocks in
+    let put-end = c .before .before .before .before .before .before .before .put-end in
+    let room = rw (← last-blocks .ensures) at (last-blocks-fit (length (args .message .now))) in
+    (omega (arith, put-end .kept .1 .1 .0), constants .ensures)
 
 digest-requires : tie.Need-digest-requires
 digest-requires c κs = search needs

@@ -26,7 +26,15 @@ cast-t12 : tie.Need-cast-t12
 cast-t12 c = search needs
 
 returns : tie.Need-returns
-returns c = let a = c .before .before .before .before .before .before .before .before .before .before .before .before .before .before .args in all-taken (fieldsOf (a .line .now)) (a .serial) (a .expiry .0) (c .before .before .before .before .before .before .before .before .before .before .before .before .byte-at .result .value) (c .before .before .before .before .before .before .before .before .before .before .before .byte-at2 .result .value) (c .before .before .before .before .before .before .before .before .before .before .byte-at3 .result .value) (c .before .before .before .before .before .before .before .before .before .byte-at4 .result .value) (c .before .before .before .before .before .before .before .before .byte-at5 .result .value) (c .before .before .before .before .before .before .before .number-at .result .value) (c .before .before .before .before .before .before .before .before .before .before .before .before .byte-at .result .ok) (c .before .before .before .before .before .before .before .before .before .before .before .byte-at2 .result .ok) (c .before .before .before .before .before .before .before .before .before .before .byte-at3 .result .ok) (c .before .before .before .before .before .before .before .before .before .byte-at4 .result .ok) (c .before .before .before .before .before .before .before .before .byte-at5 .result .ok) (c .before .before .before .before .before .before .before .number-at .result .ok) (c .before .before .before .before .before .before .before .before .before .before .before .before .byte-at .ensures) (c .before .before .before .before .before .before .before .before .before .before .before .byte-at2 .ensures) (c .before .before .before .before .before .before .before .before .before .before .byte-at3 .ensures) (c .before .before .before .before .before .before .before .before .before .byte-at4 .ensures) (c .before .before .before .before .before .before .before .before .byte-at5 .ensures) (c .before .before .before .before .before .before .before .number-at .ensures .0)
+returns c =
+    let a = c .before .before .before .before .before .before .before .before .before .before .before .before .before .before .args in
+    let byte-at = c .before .before .before .before .before .before .before .before .before .before .before .before .byte-at in
+    let byte-at2 = c .before .before .before .before .before .before .before .before .before .before .before .byte-at2 in
+    let byte-at3 = c .before .before .before .before .before .before .before .before .before .before .byte-at3 in
+    let byte-at4 = c .before .before .before .before .before .before .before .before .before .byte-at4 in
+    let byte-at5 = c .before .before .before .before .before .before .before .before .byte-at5 in
+    let number-at = c .before .before .before .before .before .before .before .number-at in
+    all-taken (fieldsOf (a .line .now)) (a .serial) (a .expiry .0) (byte-at .result .value) (byte-at2 .result .value) (byte-at3 .result .value) (byte-at4 .result .value) (byte-at5 .result .value) (number-at .result .value) (byte-at .result .ok) (byte-at2 .result .ok) (byte-at3 .result .ok) (byte-at4 .result .ok) (byte-at5 .result .ok) (number-at .result .ok) (byte-at .ensures) (byte-at2 .ensures) (byte-at3 .ensures) (byte-at4 .ensures) (byte-at5 .ensures) (number-at .ensures .0)
 
 pub particulars-of-spec : {M : Type 1} → statement M
 particulars-of-spec =

@@ -1,5 +1,3 @@
-use Rattle.window.specs.PasswordAt.{passwordAt}
-use Rattle.text.specs.Text.{fieldsOf}
 use Rattle.call_lines.specs.LineLaws.{made-none, made-call, sync-bad, sync-read}
 use borrow.Author.Needs.{needs}
 use Rattle.call_lines.proofs.calls.sync_line.Statement.{statement}
@@ -9,7 +7,7 @@ byte-at-requires : tie.Need-byte-at-requires
 byte-at-requires c κs = search needs
 
 returns : tie.Need-returns
-returns c = let a = c .before .before .before .before .before .args in made-none passwordAt (a .table .now) (sync-bad passwordAt (a .table .now) (fieldsOf (a .line .now)) (a .serial) (a .clock .0) (c .before .before .byte-at .result .value) (c .before .before .byte-at .result .ok) (c .before .before .byte-at .ensures) (c .if1 .taken))
+returns c = made-none _ _ (sync-bad _ _ _ _ _ (c .before .before .byte-at .ensures) (c .if1 .taken))
 
 field-requires : tie.Need-field-requires
 field-requires c κs = search needs
@@ -24,7 +22,13 @@ same-length : tie.Need-same-length
 same-length c = search needs
 
 returns-2 : tie.Need-returns-2
-returns-2 c = let a = c .before .before .before .before .before .before .before .before .before .before .before .args in made-call passwordAt (a .table .now) (c .before .before .sync .ensures) (sync-read passwordAt (a .table .now) (fieldsOf (a .line .now)) (a .serial) (a .clock .0) (c .before .before .before .before .before .before .before .before .byte-at .result .value) (c .before .before .before .before .before .before .before .before .byte-at .result .ok) (c .before .before .before .before .before .before .before .before .byte-at .ensures) (c .before .before .before .before .before .before .if1 .left) (c .before .before .before .before .field .ensures) (c .before .before .before .field2 .ensures))
+returns-2 c =
+    let byte-at = c .before .before .before .before .before .before .before .before .byte-at in
+    let if1 = c .before .before .before .before .before .before .if1 in
+    let field = c .before .before .before .before .field in
+    let field2 = c .before .before .before .field2 in
+    let sync = c .before .before .sync in
+    made-call _ _ (sync .ensures) (sync-read _ _ _ _ _ (byte-at .ensures) (if1 .left) (field .ensures) (field2 .ensures))
 
 pub sync-line-spec : {M : Type 1} → statement M
 sync-line-spec =

@@ -19,7 +19,13 @@ field-at-requires : tie.Need-field-at-requires Inv-loop μ-loop
 field-at-requires c κs = search needs
 
 add-start : tie.Need-add-start Inv-loop μ-loop
-add-start c = let e = end-bounded (c .before .before .before .before .before .args .line .now) (c .before .before .before .before .before .args .i) (c .before .before .before .loop .start) (c .before .before .before .loop .passed) (c .before .before .before .loop .inv) (c .before .before .loop-test .taken) (c .before .field-at .ensures) in omega arith
+add-start c =
+    let args = c .before .before .before .before .before .args in
+    let loop = c .before .before .before .loop in
+    let loop-test = c .before .before .loop-test in
+    let field-at = c .before .field-at in
+    let e = end-bounded (args .line .now) (args .i) (loop .start) (loop .passed) (loop .inv) (loop-test .taken) (field-at .ensures) in
+    omega arith
 
 add-passed : tie.Need-add-passed Inv-loop μ-loop
 add-passed c = omega arith
@@ -35,7 +41,10 @@ loop-again c =
     passed-more (args .line .now) (args .i) (loop .start) (loop .passed) (loop .inv) (loop-test .taken) (c .before .field-at .ensures)
 
 returns : tie.Need-returns Inv-loop μ-loop
-returns c = passed-all (c .before .before .before .args .line .now) (c .before .before .before .args .i) (c .before .loop .start) (c .before .loop .passed) (c .before .loop .inv) (c .loop-test .left)
+returns c =
+    let args = c .before .before .before .args in
+    let loop = c .before .loop in
+    passed-all (args .line .now) (args .i) (loop .start) (loop .passed) (loop .inv) (c .loop-test .left)
 
 pub start-of-spec : {M : Type 1} → statement M
 start-of-spec =

@@ -1,38 +1,75 @@
-use Rattle.capi.specs.Checked.{trackOf}
-use Rattle.capi.specs.CheckedLaws.{check-refused, check-room, check-asked, check-made}
+use mathlib.Core.Path.{_∙_}
+use Rattle.capi.specs.CheckedLaws.{check-refused, check-room, check-asked, check-unread, check-made}
 use borrow.Author.Needs.{needs}
 use Rattle.capi.proofs.checking.dl_check.Statement.{statement}
 use Rattle.capi.proofs.checking.dl_check.Tie as tie
 
-arguments-ok-requires : tie.Need-arguments-ok-requires
-arguments-ok-requires c κs = search needs
+numbers-ok-requires : tie.Need-numbers-ok-requires
+numbers-ok-requires c κs = search needs
 
 returns : tie.Need-returns
-returns c = let a = c .before .before .before .before .before .before .before .args in check-refused (trackOf (a .kind) (a .algorithm) (a .digits) (a .period) (a .next) (a .offset)) (a .clock) (a .size) (a .key .now) (a .challenge .now) (a .presented .now) (a .following .now) (a .step .now) (c .before .arguments-ok .ensures) (c .if1 .taken)
+returns c = check-refused _ _ _ _ _ _ (c .before .numbers-ok .ensures) _ _ (c .if1 .taken)
 
 size-of-requires : tie.Need-size-of-requires
 size-of-requires c κs = search needs
 
+presented-of-requires : tie.Need-presented-of-requires
+presented-of-requires c κs = search needs
+
+enum-known-asked : tie.Need-enum-known-asked
+enum-known-asked c = search needs
+
+enum-told : tie.Need-enum-told
+enum-told c = search needs
+
+returns-2 : tie.Need-returns-2
+returns-2 c =
+    let numbers-ok = c .before .before .before .before .before .numbers-ok in
+    let if1 = c .before .before .before .before .if1 in
+    let size-of = c .before .before .before .size-of in
+    let presented-of = c .before .before .presented-of in
+    check-unread _ _ _ _ _ _ (numbers-ok .ensures) (if1 .left) _ _ (size-of .ensures) (presented-of .ensures) (c .enum-told .given .1)
+
 check-requires : tie.Need-check-requires
-check-requires c κs = let a = c .before .before .before .before .before .before .before .before .args in check-asked (trackOf (a .kind) (a .algorithm) (a .digits) (a .period) (a .next) (a .offset)) (a .clock) (a .size) (a .key .now) (a .challenge .now) (a .presented .now) (a .following .now) (a .step .now) (c .before .before .arguments-ok .ensures) (c .before .if1 .left)
+check-requires c κs =
+    let args = c .before .before .before .before .before .before .before .before .before .before .before .before .args in
+    let numbers-ok = c .before .before .before .before .before .before .numbers-ok in
+    let if1 = c .before .before .before .before .before .if1 in
+    check-asked _ _ _ _ _ (args .step .now) (numbers-ok .ensures) (if1 .left)
 
 put-outcome-requires : tie.Need-put-outcome-requires
-put-outcome-requires c κs = let a = c .before .before .before .before .before .before .before .before .before .before .args in check-room (trackOf (a .kind) (a .algorithm) (a .digits) (a .period) (a .next) (a .offset)) (a .clock) (a .size) (a .key .now) (a .challenge .now) (a .presented .now) (a .following .now) (a .step .now) (c .before .before .before .before .arguments-ok .ensures) (c .before .before .before .if1 .left)
+put-outcome-requires c κs =
+    let args = c .before .before .before .before .before .before .before .before .before .before .before .before .before .before .args in
+    let numbers-ok = c .before .before .before .before .before .before .before .before .numbers-ok in
+    let if1 = c .before .before .before .before .before .before .before .if1 in
+    check-room _ _ _ _ _ (args .step .now) (numbers-ok .ensures) (if1 .left)
 
 same-length : tie.Need-same-length
 same-length c = search needs
 
-returns-2 : tie.Need-returns-2
-returns-2 c = let a = c .before .before .before .before .before .before .before .before .before .before .before .before .before .args in let e = check-made (trackOf (a .kind) (a .algorithm) (a .digits) (a .period) (a .next) (a .offset)) (a .clock) (a .size) (a .key .now) (a .challenge .now) (a .presented .now) (a .following .now) (a .step .now) (c .before .before .before .before .before .before .before .arguments-ok .ensures) (c .before .before .before .before .before .before .if1 .left) (c .before .before .before .before .before .size-of .ensures) (c .before .before .before .before .check .ensures) in rw (← e) (c .before .before .put-outcome .ensures)
+returns-3 : tie.Need-returns-3
+returns-3 c =
+    let numbers-ok = c .before .before .before .before .before .before .before .before .before .before .before .numbers-ok in
+    let if1 = c .before .before .before .before .before .before .before .before .before .before .if1 in
+    let size-of = c .before .before .before .before .before .before .before .before .before .size-of in
+    let presented-of = c .before .before .before .before .before .before .before .before .presented-of in
+    let asked = c .before .before .before .before .before .before .asked in
+    let check = c .before .before .before .before .check in
+    let put-outcome = c .before .before .put-outcome in
+    put-outcome .ensures ∙ check-made _ _ _ _ _ _ (numbers-ok .ensures) (if1 .left) _ _ (size-of .ensures) (presented-of .ensures) (asked .given .1) (check .ensures)
 
 pub dl-check-spec : {M : Type 1} → statement M
 dl-check-spec =
     tie.close
     (tie.spec
-    arguments-ok-requires
+    numbers-ok-requires
     returns
     size-of-requires
+    presented-of-requires
+    enum-known-asked
+    enum-told
+    returns-2
     check-requires
     put-outcome-requires
     same-length
-    returns-2)
+    returns-3)

@@ -1,4 +1,3 @@
-use mathlib.Core.Path.{refl}
 use Rattle.capi.specs.CheckedLaws.{write-first}
 use borrow.Author.Needs.{needs}
 use Rattle.capi.proofs.checking.put_outcome.Statement.{statement}
@@ -20,13 +19,13 @@ same-length : tie.Need-same-length
 same-length c = search needs
 
 returns : tie.Need-returns
-returns c = rw (c .before .outcome .given .1) (refl, write-first (c .before .before .before .args .step .now) (c .before .outcome .given .0 .0 .0) (c .before .before .before .pre))
+returns c = rw (c .before .outcome .given .1, write-first (c .before .before .before .args .step .now) (c .before .outcome .given .0 .0 .0) (c .before .before .before .pre))
 
 returns-2 : tie.Need-returns-2
-returns-2 c = search needs
+returns-2 c = rw (c .enum-told .given .1)
 
 returns-3 : tie.Need-returns-3
-returns-3 c = search needs
+returns-3 c = rw (c .enum-told2 .given .1)
 
 pub put-outcome-spec : {M : Type 1} → statement M
 put-outcome-spec =

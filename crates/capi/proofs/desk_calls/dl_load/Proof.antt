@@ -1,5 +1,4 @@
-use mathlib.Core.Path.{ap, _∙_}
-use Rattle.token.specs.Codes.{numberOf}
+use Rattle.capi.specs.DeskLeftLaws.{left-plain}
 use borrow.Author.Needs.{needs}
 use Rattle.capi.proofs.desk_calls.dl_load.Statement.{statement}
 use Rattle.capi.proofs.desk_calls.dl_load.Tie as tie
@@ -14,7 +13,7 @@ same-length : tie.Need-same-length
 same-length c = search needs
 
 returns : tie.Need-returns
-returns c = (c .number-of .ensures ∙ ap numberOf (c .before .before .before .load .ensures .0), c .before .before .before .load .ensures .1)
+returns c = left-plain _ _ (c .before .before .before .load .ensures) (c .number-of .ensures)
 
 pub dl-load-spec : {M : Type 1} → statement M
 dl-load-spec = tie.close (tie.spec load-requires number-of-requires same-length returns)

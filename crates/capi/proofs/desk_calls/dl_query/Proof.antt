@@ -1,12 +1,10 @@
-use mathlib.Core.Path.{refl}
-use Rattle.desk.specs.Requests.{Request, DeskCall}
-use Rattle.capi.specs.DeskLeftLaws.{left-short, left-told}
+use Rattle.capi.specs.DeskLeftLaws.{left-short, left-answered}
 use borrow.Author.Needs.{needs}
 use Rattle.capi.proofs.desk_calls.dl_query.Statement.{statement}
 use Rattle.capi.proofs.desk_calls.dl_query.Tie as tie
 
 returns : tie.Need-returns
-returns c = let a = c .before .before .before .args in let e = left-short (DeskCall.named Request.query (a .serial) (a .clock)) (a .table .now) (a .values .now) (c .if1 .taken) in (e .0, e .1 .1)
+returns c = left-short _ _ _ (c .if1 .taken)
 
 query-requires : tie.Need-query-requires
 query-requires c κs = search needs
@@ -18,7 +16,7 @@ same-length : tie.Need-same-length
 same-length c = search needs
 
 returns-2 : tie.Need-returns-2
-returns-2 c = let a = c .before .before .before .before .before .before .before .before .args in let e = left-told (DeskCall.named Request.query (a .serial) (a .clock)) (a .table .now) (a .values .now) (c .before .before .before .before .before .if1 .left) (c .before .before .before .before .query .ensures) refl (c .before .before .put-answer .ensures .0) (c .before .before .put-answer .ensures .1) in (e .0, e .1 .1)
+returns-2 c = left-answered _ _ (c .before .before .before .before .query .ensures) (c .before .before .put-answer .ensures .0) _ (c .before .before .before .before .before .if1 .left) (c .before .before .put-answer .ensures .1)
 
 pub dl-query-spec : {M : Type 1} → statement M
 dl-query-spec =

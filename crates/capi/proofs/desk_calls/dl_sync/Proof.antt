@@ -1,11 +1,10 @@
-use Rattle.desk.specs.Requests.{Request, DeskCall}
-use Rattle.capi.specs.DeskLeftLaws.{left-short, left-told}
+use Rattle.capi.specs.DeskLeftLaws.{left-short, left-answered}
 use borrow.Author.Needs.{needs}
 use Rattle.capi.proofs.desk_calls.dl_sync.Statement.{statement}
 use Rattle.capi.proofs.desk_calls.dl_sync.Tie as tie
 
 returns : tie.Need-returns
-returns c = let a = c .before .before .before .before .before .args in left-short (DeskCall.named (Request.sync (a .choice) (a .password .now) (a .following .now)) (a .serial) (a .clock)) (a .table .now) (a .values .now) (c .if1 .taken)
+returns c = left-short _ _ _ (c .if1 .taken)
 
 sync-requires : tie.Need-sync-requires
 sync-requires c κs = search needs
@@ -20,7 +19,7 @@ same-length-2 : tie.Need-same-length-2
 same-length-2 c = search needs
 
 returns-2 : tie.Need-returns-2
-returns-2 c = let a = c .before .before .before .before .before .before .before .before .before .before .before .before .before .args in left-told (DeskCall.named (Request.sync (a .choice) (a .password .now) (a .following .now)) (a .serial) (a .clock)) (a .table .now) (a .values .now) (c .before .before .before .before .before .before .before .before .if1 .left) (c .before .before .before .before .before .before .sync .ensures .0) (c .before .before .before .before .before .before .sync .ensures .1) (c .before .before .put-answer .ensures .0) (c .before .before .put-answer .ensures .1)
+returns-2 c = left-answered _ _ (c .before .before .before .before .before .before .sync .ensures) (c .before .before .put-answer .ensures .0) _ (c .before .before .before .before .before .before .before .before .if1 .left) (c .before .before .put-answer .ensures .1)
 
 pub dl-sync-spec : {M : Type 1} → statement M
 dl-sync-spec =

@@ -1,6 +1,6 @@
 use native.Mathlib.Omega.{arith}
 use lib.ListN.{length-set}
-use Rattle.capi.specs.DeskLeftLaws.{plain-written, checked-written, told-written}
+use Rattle.capi.specs.DeskLeftLaws.{plain-written, checked-written, queried-written}
 use borrow.Author.Needs.{needs}
 use Rattle.capi.proofs.values.put_content.Statement.{statement}
 use Rattle.capi.proofs.values.put_content.Tie as tie
@@ -59,7 +59,7 @@ returns-3 c =
     let args = c .before .before .before .before .before .before .args in
     let pre = c .before .before .before .before .before .before .pre in
     let content2 = c .before .before .before .content2 in
-    rw (content2 .given .1) (told-written (args .values .now) (pre) (content2 .given .0 .0))
+    rw (content2 .given .1) (queried-written (args .values .now) (pre) (content2 .given .0 .0))
 
 pub put-content-spec : {M : Type 1} → statement M
 put-content-spec =

@@ -18,7 +18,7 @@ returns : tie.Need-returns
 returns c =
     let args = c .before .before .before .before .before .before .before .before .before .args in
     let pre = c .before .before .before .before .before .before .before .before .before .pre in
-    ((search needs, none-served passwordAt (args .n) (args .stage .rows) (pre .1 .0) (pre .1 .1 .1 .0) false), advances-none passwordAt (args .line .now) (args .n) (stageIn (args .stage .fresh) (args .stage .rows) (args .table .now)))
+    ((search needs, none-served passwordAt (args .n) (args .stage .rows) (pre .0 .marked) (pre .0 .few) false), advances-none passwordAt (args .line .now) (args .n) (stageIn (args .stage .fresh) (args .stage .rows) (args .table .now)))
 
 count-requires : tie.Need-count-requires
 count-requires c κs = search needs
@@ -52,7 +52,7 @@ returns-2 c =
     let read = c .before .before .before .before .before .before .before .before .before .before .before .before .before .before .before .before .before .read in
     let count = c .before .before .before .before .before .before .before .before .before .before .before .before .count in
     let serve-piece = c .before .before .before .before .before .before .serve-piece in
-    next-served passwordAt (read .last .1 .0) (count .result) (read .kept .1 .0 ∙ c .before .before .before .before .before .before .before .before .before .before .before .before .before .before .before .before .before .before .before .before .before .before .before .pre .1 .1 .1 .1 .0) (count .ensures .0 .0) (serve-piece .ensures .0) (serve-piece .ensures .1)
+    next-served passwordAt (read .last .1 .0) (count .result) (read .kept .1 .0 ∙ c .before .before .before .before .before .before .before .before .before .before .before .before .before .before .before .before .before .before .before .before .before .before .before .pre .1) (count .ensures .0 .0) (serve-piece .ensures .0) (serve-piece .ensures .1)
 
 pub serve-next-spec : {M : Type 1} → statement M
 serve-next-spec =

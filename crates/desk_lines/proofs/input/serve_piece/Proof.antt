@@ -20,7 +20,7 @@ loop-holds : tie.Need-loop-holds Inv-loop μ-loop
 loop-holds c =
     let args = c .before .before .before .before .args in
     let pre = c .before .before .before .before .pre in
-    serving-begin passwordAt (args .line .now) (args .n) (args .stage .fresh) (args .stage .rows) (args .table .now) (args .piece .now) (args .out .now) (record { size = pre .0; cells = pre .1 .1 .0; space = pre .1 .1 .1 .1; marked = pre .1 .0; few = pre .1 .1 .1 .0 })
+    serving-begin passwordAt (args .line .now) (args .n) (args .stage .fresh) (args .stage .rows) (args .table .now) (args .piece .now) (args .out .now) pre
 
 sub-fill : tie.Need-sub-fill Inv-loop μ-loop
 sub-fill c = search needs
@@ -32,9 +32,7 @@ part-fill-end : tie.Need-part-fill-end Inv-loop μ-loop
 part-fill-end c = search needs
 
 fill-requires : tie.Need-fill-requires Inv-loop μ-loop
-fill-requires c κs =
-    let loop = c .before .before .before .before .before .loop in
-    (loop .inv .sized .size, (loop .inv .sized .marked, (loop .inv .sized .cells, (loop .inv .sized .few, loop .inv .sized .space))))
+fill-requires c κs = c .before .before .before .before .before .loop .inv .sized
 
 add-at : tie.Need-add-at Inv-loop μ-loop
 add-at c =
@@ -54,13 +52,25 @@ write-all-requires : tie.Need-write-all-requires Inv-loop μ-loop
 write-all-requires c κs = search needs
 
 same-length : tie.Need-same-length Inv-loop μ-loop
-same-length c = c .before .before .before .before .before .before .before .before .before .before .before .fill .kept .0 ∙ c .before .before .before .before .before .before .before .before .before .before .before .before .before .before .before .before .before .loop .inv .sized .size ∙ sym (c .before .before .before .before .before .before .before .before .before .before .before .before .before .before .before .before .before .before .before .before .before .before .pre .0)
+same-length c =
+    let given = c .before .before .before .before .before .before .before .before .before .before .before .before .before .before .before .before .before .before .before .before .before .before .pre in
+    let loop = c .before .before .before .before .before .before .before .before .before .before .before .before .before .before .before .before .before .loop in
+    let fill = c .before .before .before .before .before .before .before .before .before .before .before .fill in
+    fill .kept .0 ∙ loop .inv .sized .size ∙ sym (given .size)
 
 same-length-2 : tie.Need-same-length-2 Inv-loop μ-loop
-same-length-2 c = c .before .before .before .before .before .before .before .before .before .before .before .fill .kept .1 .1 .0 ∙ c .before .before .before .before .before .before .before .before .before .before .before .before .before .before .before .before .before .loop .inv .sized .cells ∙ sym (c .before .before .before .before .before .before .before .before .before .before .before .before .before .before .before .before .before .before .before .before .before .before .pre .1 .1 .0)
+same-length-2 c =
+    let given = c .before .before .before .before .before .before .before .before .before .before .before .before .before .before .before .before .before .before .before .before .before .before .pre in
+    let loop = c .before .before .before .before .before .before .before .before .before .before .before .before .before .before .before .before .before .loop in
+    let fill = c .before .before .before .before .before .before .before .before .before .before .before .fill in
+    fill .kept .1 .1 .0 ∙ loop .inv .sized .cells ∙ sym (given .cells)
 
 same-length-3 : tie.Need-same-length-3 Inv-loop μ-loop
-same-length-3 c = c .before .before .before .before .before .before .before .before .before .before .before .fill .kept .1 .1 .1 .1 .1 .0 ∙ c .before .before .before .before .before .before .before .before .before .before .before .before .before .before .before .before .before .loop .inv .sized .space ∙ sym (c .before .before .before .before .before .before .before .before .before .before .before .before .before .before .before .before .before .before .before .before .before .before .pre .1 .1 .1 .1)
+same-length-3 c =
+    let given = c .before .before .before .before .before .before .before .before .before .before .before .before .before .before .before .before .before .before .before .before .before .before .pre in
+    let loop = c .before .before .before .before .before .before .before .before .before .before .before .before .before .before .before .before .before .loop in
+    let fill = c .before .before .before .before .before .before .before .before .before .before .before .fill in
+    fill .kept .1 .1 .1 .1 .1 .0 ∙ loop .inv .sized .space ∙ sym (given .space)
 
 returns : tie.Need-returns Inv-loop μ-loop
 returns c =
@@ -80,13 +90,13 @@ loop-again c =
     serving-more passwordAt (c .before .before .before .before .before .before .before .before .before .before .before .before .before .before .before .before .before .loop .inv) (fill .kept .0) (fill .kept .1 .1 .0) (fill .kept .1 .1 .1 .1 .1 .0) (fill .ensures .0) (fill .ensures .1)
 
 same-length-4 : tie.Need-same-length-4 Inv-loop μ-loop
-same-length-4 c = c .before .loop .inv .sized .size ∙ sym (c .before .before .before .before .before .before .pre .0)
+same-length-4 c = c .before .loop .inv .sized .size ∙ sym (c .before .before .before .before .before .before .pre .size)
 
 same-length-5 : tie.Need-same-length-5 Inv-loop μ-loop
-same-length-5 c = c .before .loop .inv .sized .cells ∙ sym (c .before .before .before .before .before .before .pre .1 .1 .0)
+same-length-5 c = c .before .loop .inv .sized .cells ∙ sym (c .before .before .before .before .before .before .pre .cells)
 
 same-length-6 : tie.Need-same-length-6 Inv-loop μ-loop
-same-length-6 c = c .before .loop .inv .sized .space ∙ sym (c .before .before .before .before .before .before .pre .1 .1 .1 .1)
+same-length-6 c = c .before .loop .inv .sized .space ∙ sym (c .before .before .before .before .before .before .pre .space)
 
 returns-2 : tie.Need-returns-2 Inv-loop μ-loop
 returns-2 c = ((refl, piece-done passwordAt (c .before .loop .inv) (c .loop-test .left)), c .before .loop .inv .advances)

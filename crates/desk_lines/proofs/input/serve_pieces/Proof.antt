@@ -1,7 +1,7 @@
 use mathlib.Core.Path.{refl, sym, _∙_}
-use native.Mathlib.Omega.{arith}
 use borrow.Author.Needs.{needs}
-use Rattle.lines.specs.BufferLaws.{clash, input-over}
+use Rattle.words.specs.BoolLaws.{clash}
+use Rattle.lines.specs.BufferLaws.{input-over}
 use Rattle.window.specs.PasswordAt.{passwordAt}
 use Rattle.script.specs.Script.{stageIn}
 use Rattle.desk_lines.specs.AdvanceLaws.{leaves-more}
@@ -19,24 +19,40 @@ loop-holds : tie.Need-loop-holds Inv-loop μ-loop
 loop-holds c =
     let args = c .before .before .before .before .args in
     let pre = c .before .before .before .before .pre in
-    reading-begin passwordAt (args .line .now) (args .stage .fresh) (args .stage .rows) (args .table .now) (args .piece .now) (args .out .now) (record { size = pre .0; cells = pre .1 .0; space = pre .1 .1 .1 .1; marked = omega arith; few = pre .1 .1 .0 }) (pre .1 .1 .1 .0)
+    reading-begin passwordAt (args .line .now) (args .stage .fresh) (args .stage .rows) (args .table .now) (args .piece .now) (args .out .now) (pre .0) (pre .1)
 
 serve-next-requires : tie.Need-serve-next-requires Inv-loop μ-loop
 serve-next-requires c κs =
     let loop = c .before .before .before .before .before .loop in
-    (loop .inv .sized .size, (loop .inv .sized .marked, (loop .inv .sized .cells, (loop .inv .sized .few, (loop .inv .buffer, loop .inv .sized .space)))))
+    (loop .inv .sized, loop .inv .buffer)
 
 same-length : tie.Need-same-length Inv-loop μ-loop
-same-length c = c .before .before .before .before .before .before .before .before .before .before .before .serve-next .kept .1 .0 ∙ c .before .before .before .before .before .before .before .before .before .before .before .before .before .before .before .before .before .loop .inv .sized .size ∙ sym (c .before .before .before .before .before .before .before .before .before .before .before .before .before .before .before .before .before .before .before .before .before .before .pre .0)
+same-length c =
+    let given = c .before .before .before .before .before .before .before .before .before .before .before .before .before .before .before .before .before .before .before .before .before .before .pre in
+    let loop = c .before .before .before .before .before .before .before .before .before .before .before .before .before .before .before .before .before .loop in
+    let serve-next = c .before .before .before .before .before .before .before .before .before .before .before .serve-next in
+    serve-next .kept .1 .0 ∙ loop .inv .sized .size ∙ sym (given .0 .size)
 
 same-length-2 : tie.Need-same-length-2 Inv-loop μ-loop
-same-length-2 c = c .before .before .before .before .before .before .before .before .before .before .before .serve-next .kept .1 .1 .1 .0 ∙ c .before .before .before .before .before .before .before .before .before .before .before .before .before .before .before .before .before .loop .inv .sized .cells ∙ sym (c .before .before .before .before .before .before .before .before .before .before .before .before .before .before .before .before .before .before .before .before .before .before .pre .1 .0)
+same-length-2 c =
+    let given = c .before .before .before .before .before .before .before .before .before .before .before .before .before .before .before .before .before .before .before .before .before .before .pre in
+    let loop = c .before .before .before .before .before .before .before .before .before .before .before .before .before .before .before .before .before .loop in
+    let serve-next = c .before .before .before .before .before .before .before .before .before .before .before .serve-next in
+    serve-next .kept .1 .1 .1 .0 ∙ loop .inv .sized .cells ∙ sym (given .0 .cells)
 
 same-length-3 : tie.Need-same-length-3 Inv-loop μ-loop
-same-length-3 c = c .before .before .before .before .before .before .before .before .before .before .before .serve-next .kept .1 .1 .1 .1 .1 .0 ∙ c .before .before .before .before .before .before .before .before .before .before .before .before .before .before .before .before .before .loop .inv .buffer ∙ sym (c .before .before .before .before .before .before .before .before .before .before .before .before .before .before .before .before .before .before .before .before .before .before .pre .1 .1 .1 .0)
+same-length-3 c =
+    let given = c .before .before .before .before .before .before .before .before .before .before .before .before .before .before .before .before .before .before .before .before .before .before .pre in
+    let loop = c .before .before .before .before .before .before .before .before .before .before .before .before .before .before .before .before .before .loop in
+    let serve-next = c .before .before .before .before .before .before .before .before .before .before .before .serve-next in
+    serve-next .kept .1 .1 .1 .1 .1 .0 ∙ loop .inv .buffer ∙ sym (given .1)
 
 same-length-4 : tie.Need-same-length-4 Inv-loop μ-loop
-same-length-4 c = c .before .before .before .before .before .before .before .before .before .before .before .serve-next .kept .1 .1 .1 .1 .1 .1 .0 ∙ c .before .before .before .before .before .before .before .before .before .before .before .before .before .before .before .before .before .loop .inv .sized .space ∙ sym (c .before .before .before .before .before .before .before .before .before .before .before .before .before .before .before .before .before .before .before .before .before .before .pre .1 .1 .1 .1)
+same-length-4 c =
+    let given = c .before .before .before .before .before .before .before .before .before .before .before .before .before .before .before .before .before .before .before .before .before .before .pre in
+    let loop = c .before .before .before .before .before .before .before .before .before .before .before .before .before .before .before .before .before .loop in
+    let serve-next = c .before .before .before .before .before .before .before .before .before .before .before .serve-next in
+    serve-next .kept .1 .1 .1 .1 .1 .1 .0 ∙ loop .inv .sized .space ∙ sym (given .0 .space)
 
 returns : tie.Need-returns Inv-loop μ-loop
 returns c =
@@ -55,19 +71,19 @@ loop-again c =
     reading-more passwordAt (c .before .before .before .before .before .before .before .before .before .before .before .before .before .before .before .before .before .loop .inv) (serve-next .kept .1 .0) (serve-next .kept .1 .1 .1 .0) (serve-next .kept .1 .1 .1 .1 .1 .0) (serve-next .kept .1 .1 .1 .1 .1 .1 .0) (serve-next .ensures .0 .1) (serve-next .ensures .1)
 
 same-length-5 : tie.Need-same-length-5 Inv-loop μ-loop
-same-length-5 c = c .before .loop .inv .sized .size ∙ sym (c .before .before .before .before .before .before .pre .0)
+same-length-5 c = c .before .loop .inv .sized .size ∙ sym (c .before .before .before .before .before .before .pre .0 .size)
 
 same-length-6 : tie.Need-same-length-6 Inv-loop μ-loop
-same-length-6 c = c .before .loop .inv .sized .cells ∙ sym (c .before .before .before .before .before .before .pre .1 .0)
+same-length-6 c = c .before .loop .inv .sized .cells ∙ sym (c .before .before .before .before .before .before .pre .0 .cells)
 
 same-length-7 : tie.Need-same-length-7 Inv-loop μ-loop
-same-length-7 c = c .before .loop .inv .buffer ∙ sym (c .before .before .before .before .before .before .pre .1 .1 .1 .0)
+same-length-7 c = c .before .loop .inv .buffer ∙ sym (c .before .before .before .before .before .before .pre .1)
 
 same-length-8 : tie.Need-same-length-8 Inv-loop μ-loop
-same-length-8 c = c .before .loop .inv .sized .space ∙ sym (c .before .before .before .before .before .before .pre .1 .1 .1 .1)
+same-length-8 c = c .before .loop .inv .sized .space ∙ sym (c .before .before .before .before .before .before .pre .0 .space)
 
 returns-2 : tie.Need-returns-2 Inv-loop μ-loop
-returns-2 c = ((clash refl, (c .before .loop .inv .sized .marked, c .before .loop .inv .sized .few)), c .before .loop .inv .leaves)
+returns-2 c = ((λ t. clash t refl, (c .before .loop .inv .sized .marked, c .before .loop .inv .sized .few)), c .before .loop .inv .leaves)
 
 pub serve-pieces-spec : {M : Type 1} → statement M
 serve-pieces-spec =

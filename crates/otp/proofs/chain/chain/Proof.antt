@@ -3,7 +3,8 @@ use mathlib.Core.Path.{_≡_}
 use borrow.Author.Needs.{needs}
 use native.Mathlib.Omega.{arith}
 use Rattle.sm4.specs.Sm4.{wordsOf}
-use Rattle.otp.specs.ChainLaws.{chain, chain-more, block-part, block-length}
+use Rattle.otp.specs.Chain.{chain}
+use Rattle.otp.specs.ChainLaws.{chain-more, block-part, block-length}
 use Rattle.otp.proofs.chain.chain.Statement.{statement}
 use Rattle.otp.proofs.chain.chain.Tie as tie
 
@@ -50,8 +51,10 @@ loop-less : tie.Need-loop-less Inv-loop μ-loop
 loop-less c = search needs
 
 loop-again : tie.Need-loop-again Inv-loop μ-loop
-loop-again c = let l = c .before .before .before .before .before .before .loop in
-    (omega arith, (omega arith, chain-more (c .before .before .before .before .before .before .before .before .before .args .keys .now) (c .before .before .before .before .before .before .before .before .before .args .s .now) (l .i) (omega arith) (c .before .before .before .before .before .before .before .before .before .pre .0) (l .inv .1 .1) (c .before .before .before .words-of .ensures) (c .before .before .block-sum .ensures) (c .before .encrypt-words .ensures)))
+loop-again c =
+    let pre = c .before .before .before .before .before .before .before .before .before .pre in
+    let l = c .before .before .before .before .before .before .loop in
+    (omega arith, (omega arith, chain-more _ _ (l .i) (omega arith) (pre .0) (l .inv .1 .1) (c .before .before .before .words-of .ensures) (c .before .before .block-sum .ensures) (c .before .encrypt-words .ensures)))
 
 returns : tie.Need-returns Inv-loop μ-loop
 returns c = let e : c .before .loop .i ≡ c .before .before .before .before .args .blocks = omega arith in rw e at (c .before .loop .inv .1 .1)

@@ -1,5 +1,5 @@
 use Rattle.otp.specs.StepCutsLaws.{lane-cut}
-use Rattle.otp.specs.ChainLaws.{prepared}
+use Rattle.otp.specs.Chain.{prepared}
 use borrow.Author.Needs.{needs}
 use Rattle.otp.proofs.cuts.first_cut.Statement.{statement}
 use Rattle.otp.proofs.cuts.first_cut.Tie as tie
@@ -28,7 +28,7 @@ same-length c = search needs
 returns : tie.Need-returns
 returns c = let a = c .before .before .before .before .before .before .before .before .before .args in
     let made = c .before .before .before .sides-from .ensures in
-    (lane-cut (prepared 4 (a .key .now)) (a .timed) (a .s) (c .before .before .before .before .before .before .block-of .ensures) (made .0) (c .cut-words .ensures), made .1)
+    (lane-cut (prepared (a .key .now)) (a .timed) (a .s) (c .before .before .before .before .before .before .block-of .ensures) (made .0) (c .cut-words .ensures), made .1)
 
 pub first-cut-spec : {M : Type 1} → statement M
 first-cut-spec =

@@ -1,5 +1,5 @@
 use Rattle.otp.specs.StepCutsLaws.{lane-cuts}
-use Rattle.otp.specs.ChainLaws.{prepared}
+use Rattle.otp.specs.Chain.{prepared}
 use borrow.Author.Needs.{needs}
 use Rattle.otp.proofs.cuts.first_cuts.Statement.{statement}
 use Rattle.otp.proofs.cuts.first_cuts.Tie as tie
@@ -29,7 +29,7 @@ returns : tie.Need-returns
 returns c = let a = c .before .before .before .before .before .before .before .before .before .args in
     let blocks = c .before .before .before .before .before .before .three-from .ensures in
     let states = c .before .before .before .first-three .ensures in
-    (lane-cuts (prepared 4 (a .key .now)) (a .timed) (a .s) (blocks .0) (blocks .1 .0) (blocks .1 .1) (states .0) (states .1 .0) (states .1 .1 .0) (c .three-cuts .ensures), states .1 .1 .1)
+    (lane-cuts (prepared (a .key .now)) (a .timed) (a .s) (blocks .0) (blocks .1 .0) (blocks .1 .1) (states .0) (states .1 .0) (states .1 .1 .0) (c .three-cuts .ensures), states .1 .1 .1)
 
 pub first-cuts-spec : {M : Type 1} → statement M
 first-cuts-spec =

@@ -1,6 +1,4 @@
-use Rattle.otp.specs.StepCuts.{cutBy}
 use Rattle.otp.specs.StepCutsLaws.{five-cuts, lane-cut}
-use Prim.Native.Nat.{_+_}
 use borrow.Author.Needs.{needs}
 use Rattle.otp.proofs.cuts.next_cuts.Statement.{statement}
 use Rattle.otp.proofs.cuts.next_cuts.Tie as tie
@@ -52,7 +50,6 @@ cut-words-requires-5 c κs = search needs
 
 returns : tie.Need-returns
 returns c =
-    let args = c .before .before .before .before .before .before .before .before .before .before .before .before .before .before .before .before .before .args in
     let block-of = c .before .before .before .before .before .before .before .before .before .before .before .before .before .before .before .block-of in
     let block-of2 = c .before .before .before .before .before .before .before .before .before .before .before .before .before .before .block-of2 in
     let block-of3 = c .before .before .before .before .before .before .before .before .before .before .before .before .before .block-of3 in
@@ -60,9 +57,10 @@ returns c =
     let block-of5 = c .before .before .before .before .before .before .before .before .before .before .before .block-of5 in
     let five-blocks = c .before .before .before .before .before .before .before .before .before .before .five-blocks in
     let cut-words = c .before .before .before .before .cut-words in
-    let cut-words2 = c .before .before .before .cut-words2 in
-    let cut-words3 = c .before .before .cut-words3 in
-    five-cuts (cutBy (args .keys .now) (args .timed)) (args .s) (lane-cut (args .keys .now) (args .timed) (args .s) (block-of .ensures) (five-blocks .ensures .0) (cut-words .ensures)) (lane-cut (args .keys .now) (args .timed) (args .s + 1) (block-of2 .ensures) (five-blocks .ensures .1 .0) (cut-words2 .ensures)) (lane-cut (args .keys .now) (args .timed) (args .s + 2) (block-of3 .ensures) (five-blocks .ensures .1 .1 .0) (cut-words3 .ensures)) (lane-cut (args .keys .now) (args .timed) (args .s + 3) (block-of4 .ensures) (five-blocks .ensures .1 .1 .1 .0) (c .before .cut-words4 .ensures)) (lane-cut (args .keys .now) (args .timed) (args .s + 4) (block-of5 .ensures) (five-blocks .ensures .1 .1 .1 .1) (c .cut-words5 .ensures))
+    let states = five-blocks .ensures in
+    five-cuts _ _ (lane-cut _ _ _ (block-of .ensures) (states .0) (cut-words .ensures)) (lane-cut _ _ _ (block-of2 .ensures) (states .1 .0) (c .before .before .before .cut-words2 .ensures))
+    (lane-cut _ _ _ (block-of3 .ensures) (states .1 .1 .0) (c .before .before .cut-words3 .ensures)) (lane-cut _ _ _ (block-of4 .ensures) (states .1 .1 .1 .0) (c .before .cut-words4 .ensures))
+    (lane-cut _ _ _ (block-of5 .ensures) (states .1 .1 .1 .1) (c .cut-words5 .ensures))
 
 pub next-cuts-spec : {M : Type 1} → statement M
 next-cuts-spec =

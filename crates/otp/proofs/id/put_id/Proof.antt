@@ -30,14 +30,26 @@ same-length : tie.Need-same-length
 same-length c = search needs
 
 returns : tie.Need-returns
-returns c = let all = put-id (c .before .before .before .before .before .before .before .before .before .before .before .before .before .before .before .args .out .now) (c .before .before .before .before .before .before .before .before .before .before .before .before .before .before .before .args .at) (c .before .before .before .before .before .before .before .before .before .before .before .before .before .before .before .args .time) (c .before .before .before .before .before .before .before .before .before .before .before .before .before .before .before .args .count) (c .before .before .before .before .before .before .before .before .before .before .before .before .before .before .before .args .challenge .now) (c .before .before .before .before .before .before .before .before .before .before .before .before .before .before .before .pre .1) (c .before .before .before .before .before .before .before .before .before .before .before .before .before .before .before .pre .0) (c .before .before .before .before .before .before .before .before .before .before .before .put-factor .ensures .0) (c .before .before .before .before .before .before .before .before .before .before .before .put-factor .ensures .1) (c .before .before .before .before .before .before .before .put-factor2 .ensures .0) (c .before .before .before .before .before .before .before .put-factor2 .ensures .1) (c .before .before .before .put-bytes .ensures .0) (c .before .before .before .put-bytes .ensures .1) in
+returns c =
+    let args = c .before .before .before .before .before .before .before .before .before .before .before .before .before .before .before .args in
+    let pre = c .before .before .before .before .before .before .before .before .before .before .before .before .before .before .before .pre in
+    let put-factor = c .before .before .before .before .before .before .before .before .before .before .before .put-factor in
+    let put-factor2 = c .before .before .before .before .before .before .before .put-factor2 in
+    let put-bytes = c .before .before .before .put-bytes in
+    let all = put-id (args .out .now) (args .at) (args .time) (args .count) (args .challenge .now) (pre .1) (pre .0) (put-factor .ensures .0) (put-factor .ensures .1) (put-factor2 .ensures .0) (put-factor2 .ensures .1) (put-bytes .ensures .0) (put-bytes .ensures .1) in
     (omega (arith, all .0), all .1)
 
 same-length-2 : tie.Need-same-length-2
 same-length-2 c = search needs
 
 returns-2 : tie.Need-returns-2
-returns-2 c = let all = put-id (c .before .before .before .before .before .before .before .before .before .before .before .before .before .before .before .args .out .now) (c .before .before .before .before .before .before .before .before .before .before .before .before .before .before .before .args .at) (c .before .before .before .before .before .before .before .before .before .before .before .before .before .before .before .args .time) (c .before .before .before .before .before .before .before .before .before .before .before .before .before .before .before .args .count) (c .before .before .before .before .before .before .before .before .before .before .before .before .before .before .before .args .challenge .now) (c .before .before .before .before .before .before .before .before .before .before .before .before .before .before .before .pre .1) (c .before .before .before .before .before .before .before .before .before .before .before .before .before .before .before .pre .0) (c .before .before .before .before .before .before .before .before .before .before .before .put-factor .ensures .0) (c .before .before .before .before .before .before .before .before .before .before .before .put-factor .ensures .1) (c .before .before .before .before .before .before .before .put-factor2 .ensures .0) (c .before .before .before .before .before .before .before .put-factor2 .ensures .1) (c .before .before .before .put-bytes .ensures .0) (c .before .before .before .put-bytes .ensures .1) in
+returns-2 c =
+    let args = c .before .before .before .before .before .before .before .before .before .before .before .before .before .before .before .args in
+    let pre = c .before .before .before .before .before .before .before .before .before .before .before .before .before .before .before .pre in
+    let put-factor = c .before .before .before .before .before .before .before .before .before .before .before .put-factor in
+    let put-factor2 = c .before .before .before .before .before .before .before .put-factor2 in
+    let put-bytes = c .before .before .before .put-bytes in
+    let all = put-id (args .out .now) (args .at) (args .time) (args .count) (args .challenge .now) (pre .1) (pre .0) (put-factor .ensures .0) (put-factor .ensures .1) (put-factor2 .ensures .0) (put-factor2 .ensures .1) (put-bytes .ensures .0) (put-bytes .ensures .1) in
     (omega (arith, all .0), all .1)
 
 pub put-id-spec : {M : Type 1} → statement M

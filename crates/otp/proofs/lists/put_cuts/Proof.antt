@@ -1,5 +1,6 @@
 use borrow.Author.Needs.{needs}
 use mathlib.Core.Path.{ap, _∙_}
+use mathlib.Core.List.{[]}
 use native.Mathlib.Omega.{arith}
 use lib.ListN.{length}
 use Rattle.otp.specs.ChainLaws.{length-prepared}
@@ -17,16 +18,18 @@ same-length c = search needs
 
 returns : tie.Need-returns
 returns c =
-    let a = c .before .before .before .before .before .before .before .before .args in
-    let hashed = c .before .before .before .before .if1 .taken in
+    let args = c .before .before .before .before .before .before .before .before .args in
+    let if1 = c .before .before .before .before .if1 in
+    let a = args in
+    let hashed = if1 .taken in
     let made = c .before .before .put-hashed .ensures in
-    listed (a .s) (hashedCut (a .key .now) (a .timed)) (stepCut (a .algorithm) (a .key .now) (a .timed)) _ (width-hashed (a .algorithm) (a .left) hashed) (made .0) (hashed-list (a .algorithm) (a .key .now) (a .timed) _ (a .s) hashed) (made .1)
+    listed (a .s) (hashedCut (a .key .now) (a .timed)) (stepCut (a .algorithm) (a .key .now) [] (a .timed)) _ (width-hashed (a .algorithm) (a .left) hashed) (made .0) (hashed-list (a .algorithm) (a .key .now) (a .timed) _ (a .s) hashed) (made .1)
 
 put-keyed-requires : tie.Need-put-keyed-requires
 put-keyed-requires c κs =
     let start = c .before .before .before .before .before in
     let keys = start .pre .1 .0 (c .before .if1 .left) in
-    (ap length keys ∙ length-prepared 4 (start .args .key .now), (start .pre .1 .1 .0, start .pre .1 .1 .1))
+    (ap length keys ∙ length-prepared (start .args .key .now), (start .pre .1 .1 .0, start .pre .1 .1 .1))
 
 same-length-2 : tie.Need-same-length-2
 same-length-2 c = search needs
@@ -38,7 +41,7 @@ returns-2 c =
     let keyed = c .before .before .before .before .if1 .left in
     let made = c .before .before .put-keyed .ensures in
     let small = keyed-most (a .left) .1 in
-    listed (a .s) (cutBy (a .keys .now) (a .timed)) (stepCut (a .algorithm) (a .key .now) (a .timed)) _ (width-keyed (a .algorithm) (a .left) keyed) (made .0)
+    listed (a .s) (cutBy (a .keys .now) (a .timed)) (stepCut (a .algorithm) (a .key .now) [] (a .timed)) _ (width-keyed (a .algorithm) (a .left) keyed) (made .0)
     (keyed-list (a .algorithm) (a .key .now) (a .timed) _ (a .s) keyed (start .pre .1 .0 keyed) (omega (arith, small, start .pre .1 .1 .0))) (made .1)
 
 pub put-cuts-spec : {M : Type 1} → statement M

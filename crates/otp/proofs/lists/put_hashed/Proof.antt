@@ -35,9 +35,12 @@ same-length-2 c = search needs
 
 returns-2 : tie.Need-returns-2
 returns-2 c =
-    let a = c .before .before .before .before .before .before .before .before .before .args in
+    let args = c .before .before .before .before .before .before .before .before .before .args in
+    let if1 = c .before .before .before .before .before .before .if1 in
+    let hashed-cuts = c .before .before .before .before .before .hashed-cuts in
+    let a = args in
     let cutAt = hashedCut (a .key .now) (a .timed) in
-    listed (a .s) cutAt cutAt _ (hashed-four (a .left) (c .before .before .before .before .before .before .if1 .left)) refl refl (list-put cutAt (a .s) 4 _ (c .before .before .before .before .before .hashed-cuts .ensures) (c .before .before .copy-words .ensures))
+    listed (a .s) cutAt cutAt _ (hashed-four (a .left) (if1 .left)) refl refl (list-put cutAt (a .s) 4 _ (hashed-cuts .ensures) (c .before .before .copy-words .ensures))
 
 pub put-hashed-spec : {M : Type 1} → statement M
 put-hashed-spec =

@@ -19,9 +19,12 @@ same-length c = search needs
 
 returns : tie.Need-returns
 returns c =
-    let a = c .before .before .before .before .before .before .before .before .before .args in
+    let args = c .before .before .before .before .before .before .before .before .before .args in
+    let if1 = c .before .before .before .before .before .before .if1 in
+    let few-cuts = c .before .before .before .before .before .few-cuts in
+    let a = args in
     let cutAt = cutBy (a .keys .now) (a .timed) in
-    listed (a .s) cutAt cutAt _ (keyed-three (a .left) (c .before .before .before .before .before .before .if1 .taken)) refl refl (list-put cutAt (a .s) 3 _ (c .before .before .before .before .before .few-cuts .ensures) (c .before .before .copy-words .ensures))
+    listed (a .s) cutAt cutAt _ (keyed-three (a .left) (if1 .taken)) refl refl (list-put cutAt (a .s) 3 _ (few-cuts .ensures) (c .before .before .copy-words .ensures))
 
 next-cuts-requires : tie.Need-next-cuts-requires
 next-cuts-requires c κs = search needs
@@ -37,9 +40,12 @@ same-length-2 c = search needs
 
 returns-2 : tie.Need-returns-2
 returns-2 c =
-    let a = c .before .before .before .before .before .before .before .before .before .args in
+    let args = c .before .before .before .before .before .before .before .before .before .args in
+    let if1 = c .before .before .before .before .before .before .if1 in
+    let next-cuts = c .before .before .before .before .before .next-cuts in
+    let a = args in
     let cutAt = cutBy (a .keys .now) (a .timed) in
-    listed (a .s) cutAt cutAt _ (keyed-five (a .left) (c .before .before .before .before .before .before .if1 .left)) refl refl (list-put cutAt (a .s) 5 _ (c .before .before .before .before .before .next-cuts .ensures) (c .before .before .copy-words2 .ensures))
+    listed (a .s) cutAt cutAt _ (keyed-five (a .left) (if1 .left)) refl refl (list-put cutAt (a .s) 5 _ (next-cuts .ensures) (c .before .before .copy-words2 .ensures))
 
 pub put-keyed-spec : {M : Type 1} → statement M
 put-keyed-spec =

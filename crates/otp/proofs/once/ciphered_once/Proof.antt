@@ -47,20 +47,30 @@ add-chain c = let a = c .before .before .before .before .before .before .before 
     omega (arith, c .before .before .before .before .before .before .before .before .before .put-id .ensures .0)
 
 chain-requires : tie.Need-chain-requires
-chain-requires c κs = let a = c .before .before .before .before .before .before .before .before .before .before .before .before .before .args in
-    let id = c .before .before .before .before .before .before .before .before .before .put-id in
+chain-requires c κs =
+    let args = c .before .before .before .before .before .before .before .before .before .before .before .before .before .args in
+    let pre = c .before .before .before .before .before .before .before .before .before .before .before .before .before .pre in
+    let put-id = c .before .before .before .before .before .before .before .before .before .put-id in
+    let first-block = c .before .before .before .before .first-block in
+    let a = args in
+    let id = put-id in
     let l = id-length (a .time) (a .count) (a .challenge .now) in
-    let first = first-output (a .key .now) (id .last .0) (c .before .before .before .before .before .before .before .before .before .before .before .before .before .pre .0) (omega (arith, id .kept .0)) (c .before .before .before .before .first-block .ensures) in
-    (ap length (first .0) ∙ length-prepared 4 (a .key .now), (omega (arith, id .ensures .0), (omega (arith, id .ensures .0, id .kept .0), first .1)))
+    let first = first-output (a .key .now) (id .last .0) (pre .0) (omega (arith, id .kept .0)) (first-block .ensures) in
+    (ap length (first .0) ∙ length-prepared (a .key .now), (omega (arith, id .ensures .0), (omega (arith, id .ensures .0, id .kept .0), first .1)))
 
 cut-words-requires : tie.Need-cut-words-requires
 cut-words-requires c κs = search needs
 
 returns : tie.Need-returns
-returns c = let a = c .before .before .before .before .before .before .before .before .before .before .before .before .before .before .before .args in
-    let id = c .before .before .before .before .before .before .before .before .before .before .before .put-id in
+returns c =
+    let args = c .before .before .before .before .before .before .before .before .before .before .before .before .before .before .before .args in
+    let pre = c .before .before .before .before .before .before .before .before .before .before .before .before .before .before .before .pre in
+    let put-id = c .before .before .before .before .before .before .before .before .before .before .before .put-id in
+    let first-block = c .before .before .before .before .before .before .first-block in
+    let a = args in
+    let id = put-id in
     let l = id-length (a .time) (a .count) (a .challenge .now) in
-    let first = first-output (a .key .now) (id .last .0) (c .before .before .before .before .before .before .before .before .before .before .before .before .before .before .before .pre .0) (omega (arith, id .kept .0)) (c .before .before .before .before .before .before .first-block .ensures) in
+    let first = first-output (a .key .now) (id .last .0) (pre .0) (omega (arith, id .kept .0)) (first-block .ensures) in
     ciphered-of (a .key .now) (idOf (a .time) (a .count) (a .challenge .now)) (omega arith) (first .0) (id .ensures .1) (id .ensures .0) (c .before .chain .ensures) (c .cut-words .ensures)
 
 pub ciphered-once-spec : {M : Type 1} → statement M

@@ -38,20 +38,26 @@ add-chain c = let a = c .before .before .before .before .before .before .before 
     omega (arith, c .before .before .before .before .before .before .before .put-id .ensures .0)
 
 chain-requires : tie.Need-chain-requires
-chain-requires c κs = let a = c .before .before .before .before .before .before .before .before .before .before .before .before .args in
-    let id = c .before .before .before .before .before .before .before .put-id in
+chain-requires c κs =
+    let args = c .before .before .before .before .before .before .before .before .before .before .before .before .args in
+    let pre = c .before .before .before .before .before .before .before .before .before .before .before .before .pre in
+    let put-id = c .before .before .before .before .before .before .before .put-id in
+    let a = args in
+    let id = put-id in
     let l = id-length (a .time) (a .count) (a .challenge .now) in
-    let k = ap length (c .before .before .before .before .before .before .before .before .before .before .before .before .pre .0) ∙ length-prepared 4 (a .key .now) in
+    let k = ap length (pre .0) ∙ length-prepared (a .key .now) in
     (k, (omega (arith, id .ensures .0), (omega (arith, id .ensures .0, id .kept .0), chain-first (a .keys .now) (id .last .0) k (c .before .before .before .words-of .ensures) (c .before .before .encrypt-words .ensures))))
 
 cut-words-requires : tie.Need-cut-words-requires
 cut-words-requires c κs = search needs
 
 returns : tie.Need-returns
-returns c = let a = c .before .before .before .before .before .before .before .before .before .before .before .before .before .before .args in
-    let id = c .before .before .before .before .before .before .before .before .before .put-id in
-    let l = id-length (a .time) (a .count) (a .challenge .now) in
-    ciphered-of (a .key .now) (idOf (a .time) (a .count) (a .challenge .now)) (omega (arith, c .before .before .before .before .before .before .before .before .before .before .before .before .before .before .pre .1)) (c .before .before .before .before .before .before .before .before .before .before .before .before .before .before .pre .0) (id .ensures .1) (id .ensures .0) (c .before .chain .ensures) (c .cut-words .ensures)
+returns c =
+    let args = c .before .before .before .before .before .before .before .before .before .before .before .before .before .before .args in
+    let pre = c .before .before .before .before .before .before .before .before .before .before .before .before .before .before .pre in
+    let put-id = c .before .before .before .before .before .before .before .before .before .put-id in
+    let l = id-length (args .time) (args .count) (args .challenge .now) in
+    ciphered-of _ (idOf (args .time) (args .count) (args .challenge .now)) (omega (arith, pre .1)) (pre .0) (put-id .ensures .1) (put-id .ensures .0) (c .before .chain .ensures) (c .cut-words .ensures)
 
 pub ciphered-spec : {M : Type 1} → statement M
 ciphered-spec =

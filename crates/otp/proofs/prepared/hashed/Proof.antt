@@ -23,10 +23,26 @@ slice-aggregate-hash-sum : tie.Need-slice-aggregate-hash-sum
 slice-aggregate-hash-sum c = search needs
 
 hash-sum-requires : tie.Need-hash-sum-requires
-hash-sum-requires c κs = let l = id-length (c .before .before .before .before .before .before .before .before .before .args .time) (c .before .before .before .before .before .before .before .before .before .args .count) (c .before .before .before .before .before .before .before .before .before .args .challenge .now) in let id = idOf (c .before .before .before .before .before .before .before .before .before .args .time) (c .before .before .before .before .before .before .before .before .before .args .count) (c .before .before .before .before .before .before .before .before .before .args .challenge .now) in (c .before .before .put-id .kept .0 ∙ c .before .before .before .before .before .put-bytes .kept .0, (laid-room (c .before .before .before .before .before .before .before .before .before .args .key .now) id (c .before .before .before .before .before .before .before .before .before .pre .0) (omega arith) (c .before .before .before .before .before .put-bytes .ensures .0) (c .before .before .before .before .before .put-bytes .ensures .1) (c .before .before .put-id .ensures .0) (c .before .before .put-id .ensures .1), laid-behind (c .before .before .before .before .before .before .before .before .before .args .key .now) id (c .before .before .before .before .before .before .before .before .before .pre .0) (omega arith) (c .before .before .before .before .before .put-bytes .ensures .0) (c .before .before .before .before .before .put-bytes .ensures .1) (c .before .before .put-id .ensures .0) (c .before .before .put-id .ensures .1)))
+hash-sum-requires c κs =
+    let args = c .before .before .before .before .before .before .before .before .before .args in
+    let pre = c .before .before .before .before .before .before .before .before .before .pre in
+    let put-bytes = c .before .before .before .before .before .put-bytes in
+    let put-id = c .before .before .put-id in
+    let l = id-length (args .time) (args .count) (args .challenge .now) in
+    let id = idOf (args .time) (args .count) (args .challenge .now) in
+    let room = laid-room (args .key .now) id (pre .0) (omega arith) (put-bytes .ensures .0) (put-bytes .ensures .1) (put-id .ensures .0) (put-id .ensures .1) in
+    let behind = laid-behind (args .key .now) id (pre .0) (omega arith) (put-bytes .ensures .0) (put-bytes .ensures .1) (put-id .ensures .0) (put-id .ensures .1) in
+    (put-id .kept .0 ∙ put-bytes .kept .0, (room, behind))
 
 returns : tie.Need-returns
-returns c = let l = id-length (c .before .before .before .before .before .before .before .before .before .before .before .args .time) (c .before .before .before .before .before .before .before .before .before .before .before .args .count) (c .before .before .before .before .before .before .before .before .before .before .before .args .challenge .now) in hashed-of (c .before .before .before .before .before .before .before .before .before .before .before .args .key .now) (idOf (c .before .before .before .before .before .before .before .before .before .before .before .args .time) (c .before .before .before .before .before .before .before .before .before .before .before .args .count) (c .before .before .before .before .before .before .before .before .before .before .before .args .challenge .now)) (c .before .before .before .before .before .before .before .before .before .before .before .pre .0) (omega arith) (c .before .before .before .before .before .before .before .put-bytes .ensures .0) (c .before .before .before .before .before .before .before .put-bytes .ensures .1) (c .before .before .before .before .put-id .ensures .0) (c .before .before .before .before .put-id .ensures .1) (c .before .hash-sum .ensures)
+returns c =
+    let args = c .before .before .before .before .before .before .before .before .before .before .before .args in
+    let pre = c .before .before .before .before .before .before .before .before .before .before .before .pre in
+    let put-bytes = c .before .before .before .before .before .before .before .put-bytes in
+    let put-id = c .before .before .before .before .put-id in
+    let l = id-length (args .time) (args .count) (args .challenge .now) in
+    let id = idOf (args .time) (args .count) (args .challenge .now) in
+    hashed-of (args .key .now) id (pre .0) (omega arith) (put-bytes .ensures .0) (put-bytes .ensures .1) (put-id .ensures .0) (put-id .ensures .1) (c .before .hash-sum .ensures)
 
 pub hashed-spec : {M : Type 1} → statement M
 hashed-spec =

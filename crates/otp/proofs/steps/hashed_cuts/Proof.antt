@@ -49,14 +49,20 @@ four-sums-requires c κs = search needs
 
 returns : tie.Need-returns
 returns c =
-    let start = c .before .before .before .before .before .before .before .before .before .before .before .before .before .before .before .before .before in
+    let shared-slice-known = c .before .before .before .before .before .before .before .before .before .before .before .before .before .before .before .before .shared-slice-known in
+    let before = c .before .before .before .before .before .before .before .before .before .before .before .before .before .before .before .before .before in
+    let put-bytes = c .before .before .before .before .before .before .before .before .before .before .before .before .before .before .put-bytes in
+    let pad = c .before .before .before .before .before .before .before .before .before .before .before .pad in
+    let put-steps = c .before .before .before .before .before .before .before .before .put-steps in
+    let add-block = c .before .before .before .before .add-block in
+    let start = before in
     let key = start .args .key .now in
-    let laid = c .before .before .before .before .before .before .before .before .before .before .before .before .before .before .put-bytes .ensures in
-    let padding = c .before .before .before .before .before .before .before .before .before .before .before .pad .ensures in
+    let laid = put-bytes .ensures in
+    let padding = pad .ensures in
     let block = key-shared key (start .pre .0) (laid .0) (laid .1) (padding .0) (padding .1) in
-    let put = c .before .before .before .before .before .before .before .before .put-steps .ensures in
-    let added = c .before .before .before .before .add-block .ensures in
-    cuts-of key (λ i. c .before .before .before .before .before .before .before .before .before .before .before .before .before .before .before .before .shared-slice-known .given i .fits) (start .pre .0) (start .args .timed) (start .args .s) _ _ _ (start .pre .1) refl (laid .0) block put added (c .before .four-sums .ensures)
+    let put = put-steps .ensures in
+    let added = add-block .ensures in
+    cuts-of key (λ i. shared-slice-known .given i .fits) (start .pre .0) (start .args .timed) (start .args .s) _ _ _ (start .pre .1) refl (laid .0) block put added (c .before .four-sums .ensures)
 
 pub hashed-cuts-spec : {M : Type 1} → statement M
 hashed-cuts-spec =

@@ -1,6 +1,6 @@
 use borrow.Author.Needs.{needs}
 use borrow.Author.Tests.{not-true}
-use Rattle.otp_lines.specs.ReturnLaws.{input-stopped, input-ended}
+use Rattle.otp_lines.specs.FeedLaws.{input-stopped, input-ended}
 use Rattle.otp_lines.proofs.input.answer_input.Statement.{statement}
 use Rattle.otp_lines.proofs.input.answer_input.Tie as tie
 

@@ -1,7 +1,7 @@
 use mathlib.Core.Path.{_∙_}
 use borrow.Author.Needs.{needs}
 use Rattle.otp_lines.specs.StreamLaws.{follows-none}
-use Rattle.otp_lines.specs.ReturnLaws.{next-fed}
+use Rattle.otp_lines.specs.FeedLaws.{next-fed}
 use Rattle.otp_lines.proofs.input.answer_next.Statement.{statement}
 use Rattle.otp_lines.proofs.input.answer_next.Tie as tie
 

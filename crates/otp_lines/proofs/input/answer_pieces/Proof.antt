@@ -3,7 +3,8 @@ use mathlib.Core.Path.{_≡_, refl, _∙_}
 use lib.ListN.{length}
 use native.Mathlib.Omega.{arith}
 use borrow.Author.Needs.{needs}
-use Rattle.lines.specs.BufferLaws.{clash, input-over}
+use Rattle.words.specs.BoolLaws.{clash}
+use Rattle.lines.specs.BufferLaws.{input-over}
 use Rattle.otp_lines.specs.Stream.{Leaves}
 use Rattle.otp_lines.specs.StreamLaws.{leaves-none, leaves-more}
 use Rattle.otp_lines.proofs.input.answer_pieces.Statement.{statement}
@@ -59,7 +60,7 @@ same-length-6 : tie.Need-same-length-6 Inv-loop μ-loop
 same-length-6 c = search needs
 
 returns-2 : tie.Need-returns-2 Inv-loop μ-loop
-returns-2 c = ((clash refl, search needs), c .before .loop .inv .1 .1 .1 .1)
+returns-2 c = ((λ t. clash t refl, search needs), c .before .loop .inv .1 .1 .1 .1)
 
 pub answer-pieces-spec : {M : Type 1} → statement M
 answer-pieces-spec =

@@ -1,4 +1,4 @@
-use Rattle.otp_lines.specs.ReturnLaws.{printed-length, answer-put}
+use Rattle.otp_lines.specs.FeedLaws.{printed-length, answer-put}
 use native.Mathlib.Omega.{arith}
 use borrow.Author.Needs.{needs}
 use Rattle.otp_lines.proofs.output.put_answer.Statement.{statement}

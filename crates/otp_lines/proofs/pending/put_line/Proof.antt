@@ -1,4 +1,4 @@
-use Rattle.otp_lines.specs.ReturnLaws.{line-begun}
+use Rattle.otp_lines.specs.FeedLaws.{line-begun}
 use mathlib.Core.List.{_++_}
 use borrow.Author.Needs.{needs}
 use Rattle.otp_lines.proofs.pending.put_line.Statement.{statement}

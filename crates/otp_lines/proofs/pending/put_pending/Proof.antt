@@ -1,4 +1,4 @@
-use Rattle.otp_lines.specs.ReturnLaws.{pending-long, pending-short}
+use Rattle.otp_lines.specs.FeedLaws.{pending-long, pending-short}
 use native.Mathlib.Omega.{arith}
 use borrow.Author.Needs.{needs}
 use Rattle.otp_lines.proofs.pending.put_pending.Statement.{statement}

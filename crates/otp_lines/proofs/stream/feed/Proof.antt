@@ -1,6 +1,6 @@
 use Prim.Native.Nat.{_-_, _≤_}
 use lib.ListN.{length}
-use Rattle.otp_lines.specs.ReturnLaws.{Feeding, feeding-begin, feeding-line, feeding-end}
+use Rattle.otp_lines.specs.FeedLaws.{Feeding, feeding-begin, feeding-line, feeding-end}
 use native.Mathlib.Omega.{arith}
 use borrow.Author.Needs.{needs}
 use Rattle.otp_lines.proofs.stream.feed.Statement.{statement}
@@ -43,7 +43,13 @@ loop-less : tie.Need-loop-less Inv-loop μ-loop
 loop-less c = search needs
 
 loop-again : tie.Need-loop-again Inv-loop μ-loop
-loop-again c = let l = c .before .before .before .before .before .before .before .before .before .before .loop in feeding-line (c .before .before .before .before .before .before .before .before .before .before .before .before .before .before .before .args .line .now) (c .before .before .before .before .before .before .before .before .before .before .before .before .before .before .before .args .n) (c .before .before .before .before .before .before .before .before .before .before .before .before .before .before .before .args .piece .now) (c .before .before .before .before .before .before .before .before .before .before .before .before .before .before .before .args .out .now) (l .line) (l .out) (l .held) (l .written) (l .at) (l .end) (l .inv) (c .before .before .before .before .before .before .before .before .before .loop-test .taken) (c .before .before .before .before .before .put-line .kept .1 .1 .0) (c .before .before .before .before .before .put-line .kept .0) (c .before .before .before .before .before .put-line .ensures .0) (c .before .before .before .before .before .put-line .ensures .1) (c .find2 .ensures .0) (c .find2 .ensures .1)
+loop-again c =
+    let args = c .before .before .before .before .before .before .before .before .before .before .before .before .before .before .before .args in
+    let loop = c .before .before .before .before .before .before .before .before .before .before .loop in
+    let loop-test = c .before .before .before .before .before .before .before .before .before .loop-test in
+    let put-line = c .before .before .before .before .before .put-line in
+    let l = loop in
+    feeding-line (args .line .now) (args .n) (args .piece .now) (args .out .now) (l .line) (l .out) (l .held) (l .written) (l .at) (l .end) (l .inv) (loop-test .taken) (put-line .kept .1 .1 .0) (put-line .kept .0) (put-line .ensures .0) (put-line .ensures .1) (c .find2 .ensures .0) (c .find2 .ensures .1)
 
 sub-extend : tie.Need-sub-extend Inv-loop μ-loop
 sub-extend c = search needs
@@ -64,7 +70,15 @@ same-length-2 : tie.Need-same-length-2 Inv-loop μ-loop
 same-length-2 c = search needs
 
 returns : tie.Need-returns Inv-loop μ-loop
-returns c = let l = c .before .before .before .before .before .before .loop in let w : l .written ≤ length (c .before .before .before .before .before .before .before .before .before .before .before .args .out .now) = omega (arith, l .inv .room, l .inv .start, l .inv .within, c .before .before .before .before .before .before .before .before .before .before .before .pre .1 .1) in ((omega (arith, l .inv .size, c .before .before .extend .ensures .0), w), feeding-end (c .before .before .before .before .before .before .before .before .before .before .before .args .line .now) (c .before .before .before .before .before .before .before .before .before .before .before .args .n) (c .before .before .before .before .before .before .before .before .before .before .before .args .piece .now) (c .before .before .before .before .before .before .before .before .before .before .before .args .out .now) (l .line) (l .out) (l .held) (l .written) (l .at) (l .end) (l .inv) (c .before .before .before .before .before .loop-test .left) (c .before .before .extend .ensures .1))
+returns c =
+    let args = c .before .before .before .before .before .before .before .before .before .before .before .args in
+    let given = c .before .before .before .before .before .before .before .before .before .before .before .pre in
+    let loop = c .before .before .before .before .before .before .loop in
+    let loop-test = c .before .before .before .before .before .loop-test in
+    let extend = c .before .before .extend in
+    let l = loop in
+    let w : l .written ≤ length (args .out .now) = omega (arith, l .inv .room, l .inv .start, l .inv .within, given .1 .1) in
+    ((omega (arith, l .inv .size, extend .ensures .0), w), feeding-end (args .line .now) (args .n) (args .piece .now) (args .out .now) (l .line) (l .out) (l .held) (l .written) (l .at) (l .end) (l .inv) (loop-test .left) (extend .ensures .1))
 
 pub feed-spec : {M : Type 1} → statement M
 feed-spec =

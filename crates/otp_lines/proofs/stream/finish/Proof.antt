@@ -1,4 +1,4 @@
-use Rattle.otp_lines.specs.ReturnLaws.{finish-none, finish-line}
+use Rattle.otp_lines.specs.FeedLaws.{finish-none, finish-line}
 use native.Mathlib.Omega.{arith}
 use borrow.Author.Needs.{needs}
 use Rattle.otp_lines.proofs.stream.finish.Statement.{statement}

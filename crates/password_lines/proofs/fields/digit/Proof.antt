@@ -1,6 +1,6 @@
 use borrow.Author.Tests.{leb-true}
 use lib.Dec.{leb}
-use Rattle.words.specs.Tables.{and-left}
+use Rattle.words.specs.BoolLaws.{and-left}
 use Rattle.password_lines.specs.LineLaws.{small-digit, small-no-digit}
 use Rattle.password_lines.proofs.fields.digit.Statement.{statement}
 use Rattle.password_lines.proofs.fields.digit.Tie as tie

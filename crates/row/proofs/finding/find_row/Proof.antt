@@ -14,7 +14,7 @@ returns c =
     let args = c .before .before .before .args in
     let fits = c .before .before .before .fits in
     let shared-slice-known = c .before .before .shared-slice-known in
-    found-swapped (args .table .now) (args .serial) (λ i. shared-slice-known .given i .fits) (fits .serial .fits) (c .before .swapped .ensures) (c .first-with .ensures)
+    found-swapped (args .width) (args .table .now) (args .serial) (λ i. shared-slice-known .given i .fits) (fits .serial .fits) (c .before .swapped .ensures) (c .first-with .ensures)
 
 pub find-row-spec : {M : Type 1} → statement M
 find-row-spec = tie.close (tie.spec swapped-requires first-with-requires returns)

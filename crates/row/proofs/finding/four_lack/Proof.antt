@@ -10,7 +10,7 @@ add-if1 : tie.Need-add-if1
 add-if1 c = search needs
 
 returns : tie.Need-returns
-returns c = let args = c .before .before .args in few-left (args .table .now) (args .wanted) (args .at) (c .if1 .taken)
+returns c = let args = c .before .before .args in few-left (args .width) (args .table .now) (args .wanted) (args .at) (c .if1 .taken)
 
 serial-is-requires : tie.Need-serial-is-requires
 serial-is-requires c κs = search needs
@@ -45,7 +45,7 @@ returns-2 c =
     let if1 = c .before .before .before .before .if1 in
     let serial-is = c .before .before .before .serial-is in
     let serial-is2 = c .before .before .serial-is2 in
-    four-left (args .table .now) (args .wanted) (args .at) (if1 .left) (serial-is .ensures) (serial-is2 .ensures) (c .before .serial-is3 .ensures) (c .serial-is4 .ensures)
+    four-left (args .width) (args .table .now) (args .wanted) (args .at) (if1 .left) (serial-is .ensures) (serial-is2 .ensures) (c .before .serial-is3 .ensures) (c .serial-is4 .ensures)
 
 pub four-lack-spec : {M : Type 1} → statement M
 four-lack-spec =

@@ -4,7 +4,7 @@ use mathlib.Core.List.{_++_}
 use native.Mathlib.Omega.{arith}
 use borrow.Author.Needs.{needs}
 use lib.ListN.{length, drop, replicate, length-set}
-use Rattle.row.specs.StoreLaws.{clear-more, clear-end}
+use Rattle.row.specs.WriteLaws.{clear-more, clear-end}
 use Rattle.row.proofs.storing.clear.Statement.{statement}
 use Rattle.row.proofs.storing.clear.Tie as tie
 

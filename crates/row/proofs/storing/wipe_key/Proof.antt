@@ -1,4 +1,4 @@
-use Rattle.row.specs.StoreLaws.{key-wiped}
+use Rattle.row.specs.WriteLaws.{key-wiped}
 use borrow.Author.Needs.{needs}
 use Rattle.row.proofs.storing.wipe_key.Statement.{statement}
 use Rattle.row.proofs.storing.wipe_key.Tie as tie

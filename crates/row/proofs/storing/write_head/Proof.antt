@@ -1,6 +1,6 @@
 use native.Mathlib.Omega.{arith}
 use lib.ListN.{length-set}
-use Rattle.row.specs.StoreLaws.{head-written}
+use Rattle.row.specs.WriteLaws.{head-written}
 use borrow.Author.Needs.{needs}
 use Rattle.row.proofs.storing.write_head.Statement.{statement}
 use Rattle.row.proofs.storing.write_head.Tie as tie

@@ -1,5 +1,5 @@
 use mathlib.Core.Path.{refl}
-use Rattle.row.specs.StoreLaws.{key-written}
+use Rattle.row.specs.WriteLaws.{key-written}
 use borrow.Author.Needs.{needs}
 use Rattle.row.proofs.storing.write_key.Statement.{statement}
 use Rattle.row.proofs.storing.write_key.Tie as tie

@@ -1,4 +1,4 @@
-use Rattle.row.specs.StoreLaws.{row-written}
+use Rattle.row.specs.WriteLaws.{row-written}
 use borrow.Author.Needs.{needs}
 use Rattle.row.proofs.storing.write_row.Statement.{statement}
 use Rattle.row.proofs.storing.write_row.Tie as tie

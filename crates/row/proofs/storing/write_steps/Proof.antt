@@ -1,4 +1,4 @@
-use Rattle.row.specs.StoreLaws.{steps-written}
+use Rattle.row.specs.WriteLaws.{steps-written}
 use borrow.Author.Needs.{needs}
 use Rattle.row.proofs.storing.write_steps.Statement.{statement}
 use Rattle.row.proofs.storing.write_steps.Tie as tie

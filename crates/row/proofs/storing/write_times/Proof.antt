@@ -1,4 +1,4 @@
-use Rattle.row.specs.StoreLaws.{times-written}
+use Rattle.row.specs.WriteLaws.{times-written}
 use borrow.Author.Needs.{needs}
 use Rattle.row.proofs.storing.write_times.Statement.{statement}
 use Rattle.row.proofs.storing.write_times.Tie as tie

@@ -1,4 +1,4 @@
-use Rattle.script.specs.ReturnLaws.{asked-first}
+use Rattle.script.specs.LineLaws.{asked-first}
 use borrow.Author.Needs.{needs}
 use Rattle.script.proofs.serving.asked_rows.Statement.{statement}
 use Rattle.script.proofs.serving.asked_rows.Tie as tie

@@ -1,6 +1,6 @@
 use native.Mathlib.Omega.{arith}
 use Rattle.window.specs.PasswordAt.{passwordAt}
-use Rattle.script.specs.ReturnLaws.{rows-made, line-made}
+use Rattle.script.specs.LineLaws.{rows-made, line-made}
 use borrow.Author.Needs.{needs}
 use Rattle.script.proofs.serving.serve.Statement.{statement}
 use Rattle.script.proofs.serving.serve.Tie as tie

@@ -1,6 +1,6 @@
 use native.Mathlib.Omega.{arith}
 use Rattle.window.specs.PasswordAt.{passwordAt}
-use Rattle.script.specs.ReturnLaws.{table-printed, call-printed}
+use Rattle.script.specs.LineLaws.{table-printed, call-printed}
 use borrow.Author.Needs.{needs}
 use Rattle.script.proofs.serving.serve_later.Statement.{statement}
 use Rattle.script.proofs.serving.serve_later.Tie as tie

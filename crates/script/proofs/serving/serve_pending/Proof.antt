@@ -1,6 +1,6 @@
 use native.Mathlib.Omega.{arith}
 use Rattle.window.specs.PasswordAt.{passwordAt}
-use Rattle.script.specs.ReturnLaws.{pending-long, pending-short}
+use Rattle.script.specs.LineLaws.{pending-long, pending-short}
 use borrow.Author.Needs.{needs}
 use Rattle.script.proofs.serving.serve_pending.Statement.{statement}
 use Rattle.script.proofs.serving.serve_pending.Tie as tie

@@ -1,7 +1,7 @@
 use native.Mathlib.Omega.{arith}
 use Rattle.window.specs.PasswordAt.{passwordAt}
 use Rattle.script.specs.Script.{stageIn}
-use Rattle.script.specs.ReturnLaws.{piece-pending, piece-line}
+use Rattle.script.specs.LineLaws.{piece-pending, piece-line}
 use borrow.Author.Needs.{needs}
 use Rattle.script.proofs.stream.feed.Statement.{statement}
 use Rattle.script.proofs.stream.feed.Tie as tie

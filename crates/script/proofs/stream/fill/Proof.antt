@@ -19,7 +19,7 @@ loop-holds : tie.Need-loop-holds Inv-loop μ-loop
 loop-holds c =
     let args = c .before .before .before .before .args in
     let pre = c .before .before .before .before .pre in
-    filling-begin passwordAt (args .line .now) (args .n) (args .stage .fresh) (args .stage .rows) (args .table .now) (args .piece .now) (args .out .now) (record { size = pre .0; cells = pre .1 .1 .0; space = pre .1 .1 .1 .1; marked = pre .1 .0; few = pre .1 .1 .1 .0 })
+    filling-begin passwordAt (args .line .now) (args .n) (args .stage .fresh) (args .stage .rows) (args .table .now) (args .piece .now) (args .out .now) pre
 
 sub-feed : tie.Need-sub-feed Inv-loop μ-loop
 sub-feed c = search needs
@@ -54,16 +54,18 @@ loop-again c =
     filling-more passwordAt (c .before .before .before .before .before .before .before .before .before .before .before .before .before .loop .inv) (c .before .before .before .before .before .before .before .before .before .before .before .before .loop-test .taken) (feed .kept .0) (feed .kept .1 .1 .0) (feed .kept .1 .1 .1 .1 .1 .0) (feed .ensures .0) (feed .ensures .1)
 
 same-length : tie.Need-same-length Inv-loop μ-loop
-same-length c = c .before .loop .inv .sized .size ∙ sym (c .before .before .before .before .before .before .pre .0)
+same-length c = c .before .loop .inv .sized .size ∙ sym (c .before .before .before .before .before .before .pre .size)
 
 same-length-2 : tie.Need-same-length-2 Inv-loop μ-loop
-same-length-2 c = c .before .loop .inv .sized .cells ∙ sym (c .before .before .before .before .before .before .pre .1 .1 .0)
+same-length-2 c = c .before .loop .inv .sized .cells ∙ sym (c .before .before .before .before .before .before .pre .cells)
 
 same-length-3 : tie.Need-same-length-3 Inv-loop μ-loop
-same-length-3 c = c .before .loop .inv .sized .space ∙ sym (c .before .before .before .before .before .before .pre .1 .1 .1 .1)
+same-length-3 c = c .before .loop .inv .sized .space ∙ sym (c .before .before .before .before .before .before .pre .space)
 
 returns : tie.Need-returns Inv-loop μ-loop
-returns c = ((c .before .loop .inv .within, (filling-used passwordAt (c .before .loop .inv) (c .loop-test .left), (c .before .loop .inv .sized .marked, (c .before .loop .inv .sized .few, c .before .loop .inv .room)))), c .before .loop .inv .follows)
+returns c =
+    let loop = c .before .loop in
+    ((loop .inv .within, (filling-used passwordAt (loop .inv) (c .loop-test .left), (loop .inv .sized .marked, (loop .inv .sized .few, loop .inv .room)))), loop .inv .follows)
 
 pub fill-spec : {M : Type 1} → statement M
 fill-spec =

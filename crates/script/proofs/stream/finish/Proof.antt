@@ -1,7 +1,7 @@
 use native.Mathlib.Omega.{arith}
 use Rattle.window.specs.PasswordAt.{passwordAt}
 use Rattle.script.specs.Script.{stageIn}
-use Rattle.script.specs.ReturnLaws.{end-none, end-line}
+use Rattle.script.specs.LineLaws.{end-none, end-line}
 use borrow.Author.Needs.{needs}
 use Rattle.script.proofs.stream.finish.Statement.{statement}
 use Rattle.script.proofs.stream.finish.Tie as tie

@@ -3,7 +3,8 @@ use mathlib.Core.Path.{_≡_, sym, _∙_}
 use native.Mathlib.Nat.{zero-add}
 use borrow.Author.Needs.{needs}
 use native.Mathlib.Omega.{arith}
-use Rattle.sm3.specs.Sm3Laws.{Reached, reached-none, reached-more, reached-length}
+use Rattle.sm3.specs.Rounds.{Reached}
+use Rattle.sm3.specs.Sm3Laws.{reached-none, reached-more, reached-length}
 use Rattle.sm3.proofs.compress.early_rounds.Statement.{statement}
 use Rattle.sm3.proofs.compress.early_rounds.Tie as tie
 

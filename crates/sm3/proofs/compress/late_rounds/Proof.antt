@@ -2,7 +2,8 @@ use Prim.Native.Nat.{_+_, _≤_, _-_, _%_}
 use mathlib.Core.Path.{_≡_, refl, _∙_}
 use borrow.Author.Needs.{needs}
 use native.Mathlib.Omega.{arith}
-use Rattle.sm3.specs.Sm3Laws.{Reached, reached-none, reached-more, reached-length}
+use Rattle.sm3.specs.Rounds.{Reached}
+use Rattle.sm3.specs.Sm3Laws.{reached-none, reached-more, reached-length}
 use Rattle.sm3.proofs.compress.late_rounds.Statement.{statement}
 use Rattle.sm3.proofs.compress.late_rounds.Tie as tie
 

@@ -27,13 +27,25 @@ mul-put-be-2 : tie.Need-mul-put-be-2
 mul-put-be-2 c = search needs
 
 put-be-requires : tie.Need-put-be-requires
-put-be-requires c κs = let fits = padded-fits (c .before .before .before .args .len) (c .before .before .before .pre .1 .0) in let fill = last-blocks-fill (c .before .before .before .args .len) in rw (length-set) (omega (arith, c .before .last-blocks .ensures))
+put-be-requires c κs =
+    let args = c .before .before .before .args in
+    let given = c .before .before .before .pre in
+    let last-blocks = c .before .last-blocks in
+    let fits = padded-fits (args .len) (given .1 .0) in
+    let fill = last-blocks-fill (args .len) in
+    rw (length-set) (omega (arith, last-blocks .ensures))
 
 same-length : tie.Need-same-length
 same-length c = c .before .before .put-be .kept .0 ∙ rw length-set
 
 returns : tie.Need-returns
-returns c = let e = ap (λ (n : ℕ). c .before .before .before .before .before .before .args .len / 64 + n) (c .before .before .before .before .last-blocks .ensures) in (e, padded-in-place (c .before .before .before .before .before .before .args .m .now) (c .before .before .before .before .before .before .args .len) (c .before .before .before .before .before .before .args .len / 64 + c .before .before .before .before .last-blocks .result) (c .before .before .before .before .before .before .pre .0) (c .before .before .before .before .before .before .pre .1 .0) (c .before .before .before .before .before .before .pre .1 .1) e (c .before .before .put-be .ensures))
+returns c =
+    let args = c .before .before .before .before .before .before .args in
+    let given = c .before .before .before .before .before .before .pre in
+    let last-blocks = c .before .before .before .before .last-blocks in
+    let put-be = c .before .before .put-be in
+    let e = ap (λ (n : ℕ). args .len / 64 + n) (last-blocks .ensures) in
+    (e, padded-in-place (args .m .now) (args .len) (args .len / 64 + last-blocks .result) (given .0) (given .1 .0) (given .1 .1) e (put-be .ensures))
 
 pub pad-spec : {M : Type 1} → statement M
 pad-spec =

@@ -28,16 +28,31 @@ slice-write-out : tie.Need-slice-write-out
 slice-write-out c = let l = ap length (c .before .before .before .before .before .before .before .pre .1 .1) in omega (arith, c .before .before .copy .kept .1 .0)
 
 mul-put-be : tie.Need-mul-put-be
-mul-put-be c = let room = rw (← c .before .before .before .before .before .before .before .before .pre .1 .0) at (last-blocks-fit (length (c .before .before .before .before .before .before .before .before .args .message .now))) in omega arith
+mul-put-be c =
+    let args = c .before .before .before .before .before .before .before .before .args in
+    let given = c .before .before .before .before .before .before .before .before .pre in
+    let room = rw (← given .1 .0) at (last-blocks-fit (length (args .message .now))) in
+    omega arith
 
 sub-put-be : tie.Need-sub-put-be
-sub-put-be c = let fill = rw (← c .before .before .before .before .before .before .before .before .pre .1 .0) at (last-blocks-fill (length (c .before .before .before .before .before .before .before .before .args .message .now))) in omega arith
+sub-put-be c =
+    let args = c .before .before .before .before .before .before .before .before .args in
+    let given = c .before .before .before .before .before .before .before .before .pre in
+    let fill = rw (← given .1 .0) at (last-blocks-fill (length (args .message .now))) in
+    omega arith
 
 mul-put-be-2 : tie.Need-mul-put-be-2
 mul-put-be-2 c = search needs
 
 put-be-requires : tie.Need-put-be-requires
-put-be-requires c κs = let l = ap length (c .before .before .before .before .before .before .before .before .pre .1 .1) in let room = rw (← c .before .before .before .before .before .before .before .before .pre .1 .0) at (last-blocks-fit (length (c .before .before .before .before .before .before .before .before .args .message .now))) in let fill = rw (← c .before .before .before .before .before .before .before .before .pre .1 .0) at (last-blocks-fill (length (c .before .before .before .before .before .before .before .before .args .message .now))) in rw (length-set, c .before .before .before .copy .kept .1 .0) (omega arith)
+put-be-requires c κs =
+    let args = c .before .before .before .before .before .before .before .before .args in
+    let given = c .before .before .before .before .before .before .before .before .pre in
+    let copy = c .before .before .before .copy in
+    let l = ap length (given .1 .1) in
+    let room = rw (← given .1 .0) at (last-blocks-fit (length (args .message .now))) in
+    let fill = rw (← given .1 .0) at (last-blocks-fill (length (args .message .now))) in
+    rw (length-set, copy .kept .1 .0) (omega arith)
 
 same-length : tie.Need-same-length
 same-length c = c .before .before .put-be .kept .0 ∙ rw length-set (c .before .before .before .before .before .before .copy .kept .1 .0)

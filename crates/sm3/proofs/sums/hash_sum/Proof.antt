@@ -1,7 +1,8 @@
 use borrow.Author.Needs.{needs}
 use mathlib.Core.Path.{ap, _∙_}
 use native.Mathlib.Omega.{arith}
-use Rattle.sm3.specs.Sm3Laws.{padded-fits, wordTotal, hash-sum-of}
+use Rattle.sm3.specs.Rounds.{wordTotal}
+use Rattle.sm3.specs.Sm3Laws.{padded-fits, hash-sum-of}
 use Rattle.sm3.proofs.sums.hash_sum.Statement.{statement}
 use Rattle.sm3.proofs.sums.hash_sum.Tie as tie
 
@@ -18,7 +19,13 @@ slice-aggregate-iterate : tie.Need-slice-aggregate-iterate
 slice-aggregate-iterate c = search needs
 
 iterate-requires : tie.Need-iterate-requires
-iterate-requires c κs = let fits = padded-fits (c .before .before .before .before .before .before .before .before .before .args .len) (c .before .before .before .before .before .before .before .before .before .pre .1 .0) in (omega (arith, c .before .before .before .before .before .pad .ensures .0, c .before .before .before .before .before .pad .kept .0), c .before .before .before .before .before .before .before .constants .ensures)
+iterate-requires c κs =
+    let args = c .before .before .before .before .before .before .before .before .before .args in
+    let given = c .before .before .before .before .before .before .before .before .before .pre in
+    let constants = c .before .before .before .before .before .before .before .constants in
+    let pad = c .before .before .before .before .before .pad in
+    let fits = padded-fits (args .len) (given .1 .0) in
+    (omega (arith, pad .ensures .0, pad .kept .0), constants .ensures)
 
 same-length : tie.Need-same-length
 same-length c = search needs

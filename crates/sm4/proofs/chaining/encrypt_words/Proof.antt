@@ -1,4 +1,4 @@
-use Rattle.sm4.specs.ReturnLaws.{words-refused, words-done}
+use Rattle.sm4.specs.EncryptLaws.{words-refused, words-done}
 use borrow.Author.Needs.{needs}
 use Rattle.sm4.proofs.chaining.encrypt_words.Statement.{statement}
 use Rattle.sm4.proofs.chaining.encrypt_words.Tie as tie

@@ -1,5 +1,5 @@
 use native.Mathlib.Omega.{arith}
-use Rattle.sm4.specs.ReturnLaws.{output-words}
+use Rattle.sm4.specs.EncryptLaws.{output-words}
 use Rattle.sm4.proofs.chaining.output_words.Statement.{statement}
 use Rattle.sm4.proofs.chaining.output_words.Tie as tie
 

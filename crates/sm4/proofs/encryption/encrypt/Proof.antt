@@ -1,6 +1,6 @@
 use mathlib.Core.Path.{_∙_}
 use borrow.Author.Needs.{needs}
-use Rattle.sm4.specs.ReturnLaws.{encrypt-refused-keys, encrypt-refused-block, encrypt-done}
+use Rattle.sm4.specs.EncryptLaws.{encrypt-refused-keys, encrypt-refused-block, encrypt-done}
 use Rattle.sm4.proofs.encryption.encrypt.Statement.{statement}
 use Rattle.sm4.proofs.encryption.encrypt.Tie as tie
 

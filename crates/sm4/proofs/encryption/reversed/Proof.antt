@@ -1,5 +1,5 @@
 use borrow.Author.Needs.{needs}
-use Rattle.sm4.specs.ReturnLaws.{reversed-stored}
+use Rattle.sm4.specs.EncryptLaws.{reversed-stored}
 use Rattle.sm4.proofs.encryption.reversed.Statement.{statement}
 use Rattle.sm4.proofs.encryption.reversed.Tie as tie
 

@@ -1,6 +1,6 @@
 use borrow.Author.Needs.{needs}
 use Rattle.sm4.specs.Sm4.{linear}
-use Rattle.sm4.specs.ReturnLaws.{four-steps}
+use Rattle.sm4.specs.EncryptLaws.{four-steps}
 use Rattle.sm4.proofs.round.four_rounds.Statement.{statement}
 use Rattle.sm4.proofs.round.four_rounds.Tie as tie
 

@@ -3,7 +3,7 @@ use mathlib.Core.Path.{_≡_}
 use native.Mathlib.Omega.{arith}
 use borrow.Author.Needs.{needs}
 use Rattle.sm4.specs.Sm4.{linear, steps}
-use Rattle.sm4.specs.ReturnLaws.{rounds-more}
+use Rattle.sm4.specs.EncryptLaws.{rounds-more}
 use Rattle.sm4.proofs.round.rounds.Statement.{statement}
 use Rattle.sm4.proofs.round.rounds.Tie as tie
 

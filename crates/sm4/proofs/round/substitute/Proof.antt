@@ -5,7 +5,7 @@ use native.Mathlib.Omega.{arith}
 use lib.ListN.{getD}
 use Rattle.sm4.specs.Sbox.{substitute}
 use Rattle.sm4.specs.SboxLaws.{sbox-length}
-use Rattle.sm4.specs.ReturnLaws.{in-table}
+use Rattle.sm4.specs.EncryptLaws.{in-table}
 use Rattle.sm4.proofs.round.substitute.Statement.{statement}
 use Rattle.sm4.proofs.round.substitute.Tie as tie
 

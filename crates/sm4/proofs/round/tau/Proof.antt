@@ -1,6 +1,6 @@
 use native.Mathlib.Omega.{arith}
 use borrow.Author.Needs.{needs}
-use Rattle.sm4.specs.ReturnLaws.{tau-sum}
+use Rattle.sm4.specs.EncryptLaws.{tau-sum}
 use Rattle.sm4.proofs.round.tau.Statement.{statement}
 use Rattle.sm4.proofs.round.tau.Tie as tie
 

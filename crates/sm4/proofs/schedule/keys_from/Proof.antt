@@ -6,7 +6,7 @@ use borrow.Author.Needs.{needs}
 use lib.ListN.{length, take, length-set}
 use Rattle.sm4.specs.Sm4.{keysFrom}
 use Rattle.sm4.specs.Sm4Laws.{cks-length}
-use Rattle.sm4.specs.ReturnLaws.{in-table, keys-more, keys-end}
+use Rattle.sm4.specs.EncryptLaws.{in-table, keys-more, keys-end}
 use Rattle.sm4.proofs.schedule.keys_from.Statement.{statement}
 use Rattle.sm4.proofs.schedule.keys_from.Tie as tie
 

@@ -1,5 +1,5 @@
 use borrow.Author.Needs.{needs}
-use Rattle.sm4.specs.ReturnLaws.{keys-refused, keys-done}
+use Rattle.sm4.specs.EncryptLaws.{keys-refused, keys-done}
 use Rattle.sm4.proofs.schedule.round_keys.Statement.{statement}
 use Rattle.sm4.proofs.schedule.round_keys.Tie as tie
 

@@ -6,8 +6,9 @@ use native.Mathlib.Omega.{arith}
 use lib.ListN.{length, take}
 use Rattle.sm4.specs.Sm4.{keysFrom}
 use Rattle.sm4.specs.Sm4Laws.{cks-length}
-use Rattle.sm4.specs.ReturnLaws.{keys-end}
-use Rattle.sm4.specs.SidesLaws.{sideSteps, sides-more, four-keys}
+use Rattle.sm4.specs.EncryptLaws.{keys-end}
+use Rattle.sm4.specs.Sides.{sideSteps}
+use Rattle.sm4.specs.SidesLaws.{sides-more, four-keys}
 use Rattle.sm4.proofs.sides.all_sides.Statement.{statement}
 use Rattle.sm4.proofs.sides.all_sides.Tie as tie
 
@@ -22,7 +23,9 @@ unfolding sideSteps
 loop-holds c = (search needs, (search needs, (refl, (c .before .before .before .pre .1 .1, refl))))
 
 four-sides-requires : tie.Need-four-sides-requires Inv-loop μ-loop
-four-sides-requires c κs = (c .before .before .before .before .before .pre .0, let l = ap length (c .before .before .before .before .before .pre .1 .0) ∙ cks-length in omega arith)
+four-sides-requires c κs =
+    let given = c .before .before .before .before .before .pre in
+    (given .0, let l = ap length (given .1 .0) ∙ cks-length in omega arith)
 
 put-keys-requires : tie.Need-put-keys-requires Inv-loop μ-loop
 put-keys-requires c κs = let l = c .before .before .before .loop .inv .1 .1 .1 .0 in omega arith

@@ -1,4 +1,4 @@
-use Rattle.text.specs.ReturnLaws.{field-past, field-found}
+use Rattle.text.specs.FieldLaws.{field-past, field-found}
 use borrow.Author.Needs.{needs}
 use Rattle.text.proofs.fields.field_at.Statement.{statement}
 use Rattle.text.proofs.fields.field_at.Tie as tie

@@ -1,5 +1,5 @@
 use Prim.Native.Nat.{_-_}
-use Rattle.text.specs.ReturnLaws.{Walked, end-bounded, walked-more, split-other, split-done}
+use Rattle.text.specs.FieldLaws.{Walked, end-bounded, walked-more, split-other, split-done}
 use borrow.Author.Needs.{needs}
 use native.Mathlib.Omega.{arith}
 use Rattle.text.proofs.fields.split_six.Statement.{statement}

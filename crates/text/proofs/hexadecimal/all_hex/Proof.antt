@@ -3,7 +3,7 @@ use mathlib.Core.Path.{_≡_, sym, _∙_}
 use mathlib.Core.Bool.{_&&_}
 use lib.ListN.{drop}
 use Rattle.text.specs.Steps.{allHex}
-use Rattle.text.specs.ReturnLaws.{all-more, all-end}
+use Rattle.text.specs.HexLaws.{all-more, all-end}
 use borrow.Author.Needs.{needs}
 use Rattle.text.proofs.hexadecimal.all_hex.Statement.{statement}
 use Rattle.text.proofs.hexadecimal.all_hex.Tie as tie

@@ -1,4 +1,4 @@
-use Rattle.text.specs.ReturnLaws.{hex-odd, hex-long, hex-wrong, hex-done}
+use Rattle.text.specs.HexLaws.{hex-odd, hex-long, hex-wrong, hex-done}
 use mathlib.Core.Path.{_∙_}
 use borrow.Author.Needs.{needs}
 use Rattle.text.proofs.hexadecimal.hex.Statement.{statement}

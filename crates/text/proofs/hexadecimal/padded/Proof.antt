@@ -1,4 +1,4 @@
-use Rattle.text.specs.ReturnLaws.{digits-padded}
+use Rattle.text.specs.HexLaws.{digits-padded}
 use borrow.Author.Needs.{needs}
 use Rattle.text.proofs.hexadecimal.padded.Statement.{statement}
 use Rattle.text.proofs.hexadecimal.padded.Tie as tie

@@ -3,7 +3,7 @@ use mathlib.Core.Path.{_≡_, sym, _∙_}
 use mathlib.Core.List.{_++_}
 use lib.ListN.{length, take, drop, length-set}
 use Rattle.text.specs.Steps.{pairsOf}
-use Rattle.text.specs.ReturnLaws.{pairs-more, pairs-end}
+use Rattle.text.specs.HexLaws.{pairs-more, pairs-end}
 use borrow.Author.Needs.{needs}
 use Rattle.text.proofs.hexadecimal.pairs_of.Statement.{statement}
 use Rattle.text.proofs.hexadecimal.pairs_of.Tie as tie

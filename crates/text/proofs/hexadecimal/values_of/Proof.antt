@@ -3,7 +3,7 @@ use mathlib.Core.Path.{_≡_, sym, _∙_}
 use mathlib.Core.List.{_++_, map}
 use lib.ListN.{length, take, drop, length-set}
 use Rattle.text.specs.Text.{digitValue}
-use Rattle.text.specs.ReturnLaws.{values-more, values-end}
+use Rattle.text.specs.HexLaws.{values-more, values-end}
 use borrow.Author.Needs.{needs}
 use Rattle.text.proofs.hexadecimal.values_of.Statement.{statement}
 use Rattle.text.proofs.hexadecimal.values_of.Tie as tie

@@ -1,4 +1,4 @@
-use Rattle.text.specs.ReturnLaws.{decimal-empty, decimal-digits, decimal-zero, decimal-leading}
+use Rattle.text.specs.DecimalLaws.{decimal-empty, decimal-digits, decimal-zero, decimal-leading}
 use native.Mathlib.Omega.{arith}
 use borrow.Author.Needs.{needs}
 use Rattle.text.proofs.numbers.decimal.Statement.{statement}

@@ -2,7 +2,7 @@ use Prim.Native.Nat.{_-_}
 use mathlib.Core.Path.{ap, _∙_}
 use lib.ListN.{length}
 use Rattle.text.specs.Text.{bounded}
-use Rattle.text.specs.ReturnLaws.{Read, digits-wrong, digit-read, digits-large, digits-small, read-more, digits-end}
+use Rattle.text.specs.DecimalLaws.{Read, digits-wrong, digit-read, digits-large, digits-small, read-more, digits-end}
 use native.Mathlib.Omega.{arith}
 use borrow.Author.Needs.{needs}
 use Rattle.text.proofs.numbers.digits.Statement.{statement}

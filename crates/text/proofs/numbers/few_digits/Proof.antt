@@ -1,6 +1,6 @@
 use Prim.Native.Nat.{_-_}
 use lib.ListN.{length}
-use Rattle.text.specs.ReturnLaws.{ReadAll, read-none, all-room, read-all-more, all-right, some-wrong}
+use Rattle.text.specs.DecimalLaws.{ReadAll, read-none, all-room, read-all-more, all-right, some-wrong}
 use native.Mathlib.Omega.{arith}
 use borrow.Author.Needs.{needs}
 use Rattle.text.proofs.numbers.few_digits.Statement.{statement}

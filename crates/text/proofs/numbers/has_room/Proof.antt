@@ -1,4 +1,4 @@
-use Rattle.text.specs.ReturnLaws.{room-test}
+use Rattle.text.specs.DecimalLaws.{room-test}
 use Rattle.text.proofs.numbers.has_room.Statement.{statement}
 use Rattle.text.proofs.numbers.has_room.Tie as tie
 

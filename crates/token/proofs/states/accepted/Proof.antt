@@ -9,14 +9,8 @@ track-after-requires c κs = search needs
 changed-requires : tie.Need-changed-requires
 changed-requires c κs = search needs
 
-moved-requires : tie.Need-moved-requires
-moved-requires c κs = search needs
-
 returns : tie.Need-returns
-returns c =
-    let args = c .before .before .before .before .args in
-    let track-after = c .before .before .track-after in
-    accepted-by (args .call) (args .row) (args .clock .0) (args .a .0) (track-after .ensures) (c .before .changed .ensures) (c .moved .ensures)
+returns c = accepted-by _ _ _ (c .before .track-after .ensures) (c .changed .ensures)
 
 pub accepted-spec : {M : Type 1} → statement M
-accepted-spec = tie.close (tie.spec track-after-requires changed-requires moved-requires returns)
+accepted-spec = tie.close (tie.spec track-after-requires changed-requires returns)

@@ -5,7 +5,10 @@ use Rattle.token.proofs.states.offset_after.Statement.{statement}
 use Rattle.token.proofs.states.offset_after.Tie as tie
 
 returns : tie.Need-returns
-returns c = offset-event (c .before .before .before .args .track) (c .before .before .before .args .clock .0) (c .before .before .before .args .a .0) (c .before .if1 .taken)
+returns c =
+    let args = c .before .before .before .args in
+    let if1 = c .before .if1 in
+    offset-event (args .track) (args .clock .0) (args .a .0) (if1 .taken)
 
 step-at-requires : tie.Need-step-at-requires
 step-at-requires c κs = c .before .before .pre .0 .divided (c .if1 .left)

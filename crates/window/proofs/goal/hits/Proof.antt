@@ -1,5 +1,5 @@
 use mathlib.Core.Path.{sym, _∙_}
-use Rattle.window.specs.LanesLaws.{hits-other, hits-last}
+use Rattle.window.specs.GoalLaws.{hits-other, hits-last}
 use borrow.Author.Needs.{needs}
 use Rattle.window.proofs.goal.hits.Statement.{statement}
 use Rattle.window.proofs.goal.hits.Tie as tie

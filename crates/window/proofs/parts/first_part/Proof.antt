@@ -1,8 +1,9 @@
 use borrow.Author.Needs.{needs}
 use Prim.Native.Nat.{_-_}
+use mathlib.Core.List.{[]}
 use native.Mathlib.Omega.{arith}
 use Rattle.otp.specs.CutListsLaws.{first-fits}
-use Rattle.window.specs.Lanes.{cutAt}
+use Rattle.window.specs.Goal.{cutAt}
 use Rattle.window.specs.LanesLaws.{alone-ahead, made-room, part-made, first-part-is}
 use Rattle.window.proofs.parts.first_part.Statement.{statement}
 use Rattle.window.proofs.parts.first_part.Tie as tie
@@ -30,35 +31,36 @@ part-part-of-start c = search needs
 
 part-part-of-end : tie.Need-part-part-of-end
 part-part-of-end c =
-    let start = c .before .before .before .before .before .before .before .before .before .before .before .before in
-    let a = start .args in
-    let within = start .pre .1 .1 .1 .1 in
-    let ahead = c .before .before .before .before .before .before .before .before .ahead-by .ensures in
-    let made = c .before .before .before .before .put-first-cuts in
-    let fits = first-fits _ _ _ (made .ensures .0) (ahead .1) (omega (arith, ahead .0, within .begun, within .some)) (alone-ahead (a .goal) (a .likely) (ahead .0)) in
-    omega (arith, fits .1, made .kept .1 .1 .1 .1 .1 .1 .0)
+    let args = c .before .before .before .before .before .before .before .before .before .before .before .before .before .before .args in
+    let pre = c .before .before .before .before .before .before .before .before .before .before .before .before .before .before .pre in
+    let ahead-by = c .before .before .before .before .before .before .before .before .before .before .ahead-by in
+    let put-first-cuts = c .before .before .before .before .put-first-cuts in
+    let within = pre .1 .1 .1 .1 in
+    let ahead = ahead-by .ensures in
+    let fits = first-fits _ _ _ (put-first-cuts .ensures .0) (ahead .1) (omega (arith, ahead .0, within .begun, within .some)) (alone-ahead (args .goal) (args .likely) (ahead .0)) in
+    omega (arith, fits .1, put-first-cuts .kept .1 .1 .1 .1 .1 .1 .0)
 
 part-of-requires : tie.Need-part-of-requires
 part-of-requires c κs =
-    let start = c .before .before .before .before .before .before .before .before .before .before .before .before .before in
-    let a = start .args in
-    let within = start .pre .1 .1 .1 .1 in
-    let ahead = c .before .before .before .before .before .before .before .before .before .ahead-by .ensures in
-    let made = c .before .before .before .before .before .put-first-cuts in
-    let fits = first-fits _ _ _ (made .ensures .0) (ahead .1) (omega (arith, ahead .0, within .begun, within .some)) (alone-ahead (a .goal) (a .likely) (ahead .0)) in
-    let room = made-room _ (made .kept .1 .1 .1 .1 .1 .1 .0) fits in
-    (start .pre .0, (room .0, (room .1, omega (arith, within .some, within .small))))
+    let args = c .before .before .before .before .before .before .before .before .before .before .before .before .before .before .before .args in
+    let pre = c .before .before .before .before .before .before .before .before .before .before .before .before .before .before .before .pre in
+    let ahead-by = c .before .before .before .before .before .before .before .before .before .before .before .ahead-by in
+    let put-first-cuts = c .before .before .before .before .before .put-first-cuts in
+    let within = pre .1 .1 .1 .1 in
+    let ahead = ahead-by .ensures in
+    let fits = first-fits _ _ _ (put-first-cuts .ensures .0) (ahead .1) (omega (arith, ahead .0, within .begun, within .some)) (alone-ahead (args .goal) (args .likely) (ahead .0)) in
+    let room = made-room _ (put-first-cuts .kept .1 .1 .1 .1 .1 .1 .0) fits in
+    (pre .0, (room .0, (room .1, omega (arith, within .some, within .small))))
 
 same-length : tie.Need-same-length
 same-length c = search needs
 
 returns : tie.Need-returns
-returns c =
-    let a = c .before .before .before .before .before .before .before .before .before .before .before .before .before .before .args in
-    let ahead = c .before .before .before .before .before .before .before .before .before .before .ahead-by in
+returns c = let a = c .before .before .before .before .before .before .before .before .before .before .before .before .before .before .before .before .args in
+    let ahead = c .before .before .before .before .before .before .before .before .before .before .before .before .ahead-by in
     let made = c .before .before .before .before .before .before .put-first-cuts .ensures in
-    let part = part-made (a .goal) (ahead .result) 0 (a .first) (a .end) (cutAt (a .rule) (a .key .now)) (a .first - ahead .result) _ (made .0) (made .1 .0) (c .part-of .ensures) in
-    (first-part-is (a .goal) (a .rule) (a .key .now) (a .likely) (a .first) (a .end) (ahead .ensures .0) part, made .1 .1)
+    let part = part-made (a .goal) (ahead .result) 0 (a .first .0) (a .end .0) (cutAt (a .scheme) (a .key .now) []) (a .first .0 - ahead .result) _ (made .0) (made .1 .0) (c .part-of .ensures) in
+    (first-part-is (a .goal) (a .scheme) (a .key .now) (a .likely) (a .first .0) (a .end .0) (ahead .ensures .0) part, made .1 .1)
 
 pub first-part-spec : {M : Type 1} → statement M
 first-part-spec =

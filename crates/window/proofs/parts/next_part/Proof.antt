@@ -1,9 +1,10 @@
 use borrow.Author.Needs.{needs}
 use Prim.Native.Nat.{_-_}
 use mathlib.Core.Path.{refl}
+use mathlib.Core.List.{[]}
 use native.Mathlib.Omega.{arith}
 use Rattle.otp.specs.CutListsLaws.{width-fits}
-use Rattle.window.specs.Lanes.{cutAt}
+use Rattle.window.specs.Goal.{cutAt}
 use Rattle.window.specs.LanesLaws.{made-room, part-made}
 use Rattle.window.proofs.parts.next_part.Statement.{statement}
 use Rattle.window.proofs.parts.next_part.Tie as tie
@@ -19,9 +20,8 @@ slice-aggregate-put-cuts c = search needs
 
 put-cuts-requires : tie.Need-put-cuts-requires
 put-cuts-requires c κs =
-    let given = c .before .before .before .before .pre in
-    let within = given .1 .1 .1 in
-    (given .1 .0, (given .1 .1 .0, (omega (arith, within .some, within .small), refl)))
+    let pre = c .before .before .before .before .before .before .pre in
+    let within = pre .1 .1 .1 in (pre .1 .0, (pre .1 .1 .0, (omega (arith, within .some, within .small), refl)))
 
 sub-part-of : tie.Need-sub-part-of
 sub-part-of c = search needs
@@ -30,27 +30,22 @@ part-part-of-start : tie.Need-part-part-of-start
 part-part-of-start c = search needs
 
 part-part-of-end : tie.Need-part-part-of-end
-part-part-of-end c =
-    let start = c .before .before .before .before .before .before .before in
-    let within = start .pre .1 .1 .1 in
-    let made = c .before .before .put-cuts in
-    let fits = width-fits _ _ (made .ensures .0) (within .one) (omega (arith, within .begun, within .some)) in
-    omega (arith, fits .1, made .kept .1 .1 .1 .1 .1 .1 .0)
+part-part-of-end c = let within = c .before .before .before .before .before .before .before .before .before .pre .1 .1 .1 in
+    let fits = width-fits _ _ (c .before .before .put-cuts .ensures .0) (within .one) (omega (arith, within .begun, within .some)) in
+    omega (arith, fits .1, c .before .before .put-cuts .kept .1 .1 .1 .1 .1 .1 .0)
 
 part-of-requires : tie.Need-part-of-requires
-part-of-requires c κs =
-    let start = c .before .before .before .before .before .before .before .before in
-    let within = start .pre .1 .1 .1 in
-    let made = c .before .before .before .put-cuts in
-    let fits = width-fits _ _ (made .ensures .0) (within .one) (omega (arith, within .begun, within .some)) in
-    let room = made-room _ (made .kept .1 .1 .1 .1 .1 .1 .0) fits in
-    (start .pre .0, (room .0, (room .1, omega (arith, within .some, within .small))))
+part-of-requires c κs = let within = c .before .before .before .before .before .before .before .before .before .before .pre .1 .1 .1 in
+    let fits = width-fits _ _ (c .before .before .before .put-cuts .ensures .0) (within .one) (omega (arith, within .begun, within .some)) in
+    let room = made-room _ (c .before .before .before .put-cuts .kept .1 .1 .1 .1 .1 .1 .0) fits in
+    (c .before .before .before .before .before .before .before .before .before .before .pre .0, (room .0, (room .1, omega (arith, within .some, within .small))))
 
 returns : tie.Need-returns
 returns c =
-    let a = c .before .before .before .before .before .before .before .before .before .args in
-    let made = c .before .before .before .before .put-cuts .ensures in
-    part-made (a .goal) (a .ahead) (a .before) (a .s) (a .end) (cutAt (a .rule) (a .key .now)) (a .s - a .ahead) _ (made .0) (made .1) (c .part-of .ensures)
+    let args = c .before .before .before .before .before .before .before .before .before .before .before .args in
+    let put-cuts = c .before .before .before .before .put-cuts in
+    let a = args in
+    part-made (a .goal) (a .ahead) (a .before) (a .s .0) (a .end .0) (cutAt (a .scheme) (a .key .now) []) (a .s .0 - a .ahead) _ (put-cuts .ensures .0) (put-cuts .ensures .1) (c .part-of .ensures)
 
 pub next-part-spec : {M : Type 1} → statement M
 next-part-spec =

@@ -42,9 +42,9 @@ add-t21 c = search needs
 
 returns : tie.Need-returns
 returns c =
-    let args = c .before .before .before .before .before .before .args in
-    let prior-of = c .before .before .before .prior-of in
-    part-is (args .goal) (args .ahead) (args .before) (args .cuts .now) (args .s) (args .end) (prior-of .ensures) (c .first-among .ensures) refl
+    let args = c .before .before .before .before .before .before .before .args in
+    let prior-of = c .before .before .before .before .prior-of in
+    let a = args in part-is (a .goal) (a .ahead) (a .before) (a .cuts .now) (a .s .0) (a .end .0) (prior-of .ensures) (c .before .first-among .ensures) refl
 
 pub part-of-spec : {M : Type 1} → statement M
 part-of-spec =

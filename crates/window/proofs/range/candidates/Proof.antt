@@ -1,7 +1,7 @@
 use native.Mathlib.Nat.{div-le-self, lt-of-le-of-lt}
 use borrow.Author.Tests.{eq-eqb, ne-eqb}
 use borrow.Author.Needs.{needs}
-use Rattle.window.specs.WindowLaws.{firstStep, endStep}
+use Rattle.window.specs.Range.{firstStep, endStep}
 use Rattle.window.proofs.range.candidates.Statement.{statement}
 use Rattle.window.proofs.range.candidates.Tie as tie
 
@@ -16,8 +16,10 @@ time-width-requires c κs = search needs
 
 time-range-requires : tie.Need-time-range-requires
 time-range-requires c κs =
-    let good = c .before .before .before .before .before .pre in
-    (rw (c .before .before .step-at .ensures) (lt-of-le-of-lt (div-le-self (c .before .before .before .before .before .args .clock .0) (c .before .before .before .before .before .args .track .period)) (good .timely)), (good .within, c .time-width .ensures .1))
+    let args = c .before .before .before .before .before .args in
+    let pre = c .before .before .before .before .before .pre in
+    let good = pre in
+    (rw (c .before .before .step-at .ensures) (lt-of-le-of-lt (div-le-self (args .clock .0) (args .track .period)) (good .timely)), (good .within, c .time-width .ensures .1))
 
 returns : tie.Need-returns
 unfolding firstStep endStep
@@ -25,7 +27,7 @@ returns c =
     let args = c .before .before .before .before .before .before .args in
     let if1 = c .before .before .before .before .if1 in
     let step-at = c .before .before .before .step-at in
-    rw (eq-eqb (args .track .rule .kind) 0 (if1 .taken), ← step-at .ensures, ← c .before .time-width .ensures .0) (c .time-range .ensures)
+    rw (eq-eqb (args .track .scheme .kind) 0 (if1 .taken), ← step-at .ensures, ← c .before .time-width .ensures .0) (c .time-range .ensures)
 
 event-width-requires : tie.Need-event-width-requires
 event-width-requires c κs = search needs
@@ -35,7 +37,7 @@ event-range-requires c κs = search needs
 
 returns-2 : tie.Need-returns-2
 unfolding firstStep endStep
-returns-2 c = rw (ne-eqb (c .before .before .before .before .args .track .rule .kind) 0 (c .before .before .if1 .left), ← c .before .event-width .ensures .0) (c .event-range .ensures)
+returns-2 c = rw (ne-eqb (c .before .before .before .before .args .track .scheme .kind) 0 (c .before .before .if1 .left), ← c .before .event-width .ensures .0) (c .event-range .ensures)
 
 pub candidates-spec : {M : Type 1} → statement M
 candidates-spec =

@@ -1,28 +1,28 @@
-use Prim.Native.Nat.{_-_}
-use mathlib.Core.Path.{_≡_, refl, sym, ap, _∙_}
-use native.Mathlib.Nat.{le-trans}
 use borrow.Author.Needs.{needs}
-use Rattle.window.specs.PasswordAt.{hasPassword}
-use Rattle.window.specs.CheckLaws.{sweep}
-use Rattle.window.specs.SearchLaws.{sweep-end, sweep-hit, sweep-miss, foundOf}
+use Rattle.window.specs.Search.{firstHit}
+use Rattle.window.specs.SearchLaws.{search-end, search-hit, search-miss}
+use Rattle.window.specs.Goal.{hitsAt, cutAt}
+use Rattle.window.specs.GoalLaws.{hits-alone}
+use mathlib.Core.Path.{_≡_, refl, _∙_}
+use Prim.Native.Nat.{_-_}
 use Rattle.window.proofs.search.first_match.Statement.{statement}
 use Rattle.window.proofs.search.first_match.Tie as tie
 
--- the rest of the range gives what the whole gives
 abbrev Inv-loop : tie.InvT-loop
-Inv-loop rule key keys challenge presented first end s₀ s =
-    foundOf (sweep (hasPassword rule key challenge presented) s (end - s)) ≡ foundOf (sweep (hasPassword rule key challenge presented) first (end - first))
+Inv-loop goal scheme key keys challenge end timed first s =
+    firstHit (hitsAt goal (cutAt scheme key challenge)) s (end .0) ≡ firstHit (hitsAt goal (cutAt scheme key challenge)) first (end .0)
 
 abbrev μ-loop : tie.MeasureT-loop
-μ-loop rule key keys challenge presented first end s₀ s = end - s
+μ-loop goal scheme key keys challenge end timed first s = end .0 - s
 
 loop-holds : tie.Need-loop-holds Inv-loop μ-loop
 loop-holds c = refl
 
-has-password-requires : tie.Need-has-password-requires Inv-loop μ-loop
-has-password-requires c κs =
-    let p = c .before .before .before .before .before .before .pre in
-    (p .0, (p .1 .0, λ e. le-trans (c .if1 .left) (p .1 .1 e)))
+cut-with-requires : tie.Need-cut-with-requires Inv-loop μ-loop
+cut-with-requires c κs = search needs
+
+hits-requires : tie.Need-hits-requires Inv-loop μ-loop
+hits-requires c κs = search needs
 
 add-s : tie.Need-add-s Inv-loop μ-loop
 add-s c = search needs
@@ -32,22 +32,18 @@ loop-less c = search needs
 
 loop-again : tie.Need-loop-again Inv-loop μ-loop
 loop-again c =
-    let a = c .before .before .before .before .before .before .before .before .args in
-    let l = c .before .before .before .loop in
-    let test = hasPassword (a .rule) (a .key .now) (a .challenge .now) (a .presented .now) in
-    ap foundOf (sym (sweep-miss test (l .s) (a .end) (c .before .before .if1 .left) (sym (c .before .has-password .ensures) ∙ c .if2 .left))) ∙ l .inv
+    let pre = c .before .before .before .before .before .before .before .before .before .before .pre in
+    let loop = c .before .before .before .before .before .loop in
+    let missed = hits-alone _ _ _ _ (pre .1 .0) (c .before .before .cut-with .ensures) (c .before .hits .ensures) ∙ c .if2 .left in search-miss _ _ _ (c .before .before .before .if1 .left) missed ∙ loop .inv
 
 returns : tie.Need-returns Inv-loop μ-loop
-returns c =
-    let a = c .before .before .before .before .before .before .args in
-    sweep-end (hasPassword (a .rule) (a .key .now) (a .challenge .now) (a .presented .now)) (c .before .loop .s) (a .end) (c .if1 .taken) ∙ c .before .loop .inv
+returns c = search-end _ _ _ (c .if1 .taken) ∙ c .before .before .loop .inv
 
 returns-2 : tie.Need-returns-2 Inv-loop μ-loop
 returns-2 c =
-    let a = c .before .before .before .before .before .before .before .before .args in
-    let l = c .before .before .before .loop in
-    let test = hasPassword (a .rule) (a .key .now) (a .challenge .now) (a .presented .now) in
-    sweep-hit test (l .s) (a .end) (c .before .before .if1 .left) (sym (c .before .has-password .ensures) ∙ c .if2 .taken) ∙ l .inv
+    let pre = c .before .before .before .before .before .before .before .before .before .before .pre in
+    let loop = c .before .before .before .before .before .loop in
+    let hit = hits-alone _ _ _ _ (pre .1 .0) (c .before .before .cut-with .ensures) (c .before .hits .ensures) ∙ c .if2 .taken in search-hit _ _ _ (c .before .before .before .if1 .left) hit ∙ loop .inv
 
 pub first-match-spec : {M : Type 1} → statement M
 first-match-spec =
@@ -56,7 +52,8 @@ first-match-spec =
     Inv-loop
     μ-loop
     loop-holds
-    has-password-requires
+    cut-with-requires
+    hits-requires
     add-s
     loop-less
     loop-again

@@ -1,4 +1,0 @@
--- Four SM3 hashes side by side.
-pub mod LaneLaws
-pub mod MessageLaws
-pub mod FourLaws

@@ -1,2 +1,0 @@
--- Several SM4 blocks side by side.
-pub mod LanesLaws

@@ -1,0 +1,62 @@
+use Rattle.sm4.specs.EncryptLaws.{rounds-more}
+use Rattle.sm4.specs.Sm4.{linear, steps}
+use borrow.Author.Needs.{needs}
+use native.Mathlib.Omega.{arith}
+use mathlib.Core.Path.{_≡_, refl}
+use Prim.Native.Nat.{_≤_, _-_, _%_}
+use Rattle.sm4_lanes.proofs.five.five_blocks.Statement.{statement}
+use Rattle.sm4_lanes.proofs.five.five_blocks.Tie as tie
+
+abbrev Inv-loop : tie.InvT-loop
+Inv-loop keys table s₀ i₀ s i = (i ≤ 32) × ((i % 4 ≡ 0) × ((s .first ≡ steps linear keys i (s₀ .first)) × ((s .second ≡ steps linear keys i (s₀ .second)) × ((s .third ≡ steps linear keys i (s₀ .third)) × ((s .fourth ≡ steps linear keys i (s₀ .fourth)) × ((s .fifth ≡ steps linear keys i (s₀ .fifth))))))))
+
+abbrev μ-loop : tie.MeasureT-loop
+μ-loop keys table s₀ i₀ s i = 32 - i
+
+sbox-requires : tie.Need-sbox-requires Inv-loop μ-loop
+sbox-requires c κs = search needs
+
+loop-holds : tie.Need-loop-holds Inv-loop μ-loop
+unfolding steps
+loop-holds c = (search needs, (search needs, (refl, (refl, (refl, (refl, refl))))))
+
+slice-aggregate-four-rounds : tie.Need-slice-aggregate-four-rounds Inv-loop μ-loop
+slice-aggregate-four-rounds c = search needs
+
+four-rounds-requires : tie.Need-four-rounds-requires Inv-loop μ-loop
+four-rounds-requires c κs = (c .before .before .before .sbox .ensures, omega (arith, c .before .before .before .before .before .pre))
+
+add-i : tie.Need-add-i Inv-loop μ-loop
+add-i c = search needs
+
+loop-less : tie.Need-loop-less Inv-loop μ-loop
+loop-less c = search needs
+
+loop-again : tie.Need-loop-again Inv-loop μ-loop
+loop-again c =
+    let args = c .before .before .before .before .before .before .args in
+    let loop = c .before .before .before .loop in
+    let l = loop in
+    (search needs, (omega arith, (rounds-more (args .keys .now) (l .i) (args .blocks .first) (l .inv .1 .1 .0) (c .four-rounds .ensures .0), (rounds-more (args .keys .now) (l .i) (args .blocks .second) (l .inv .1 .1 .1 .0) (c .four-rounds .ensures .1 .0), (rounds-more (args .keys .now) (l .i) (args .blocks .third) (l .inv .1 .1 .1 .1 .0) (c .four-rounds .ensures .1 .1 .0), (rounds-more (args .keys .now) (l .i) (args .blocks .fourth) (l .inv .1 .1 .1 .1 .1 .0) (c .four-rounds .ensures .1 .1 .1 .0), rounds-more (args .keys .now) (l .i) (args .blocks .fifth) (l .inv .1 .1 .1 .1 .1 .1) (c .four-rounds .ensures .1 .1 .1 .1)))))))
+
+returns : tie.Need-returns Inv-loop μ-loop
+returns c =
+    let loop = c .before .loop in
+    let l = loop in
+    let e : l .i ≡ 32 = omega arith in
+    (rw e at (l .inv .1 .1 .0), (rw e at (l .inv .1 .1 .1 .0), (rw e at (l .inv .1 .1 .1 .1 .0), (rw e at (l .inv .1 .1 .1 .1 .1 .0), rw e at (l .inv .1 .1 .1 .1 .1 .1)))))
+
+pub five-blocks-spec : {M : Type 1} → statement M
+five-blocks-spec =
+    tie.close
+    (tie.spec
+    Inv-loop
+    μ-loop
+    sbox-requires
+    loop-holds
+    slice-aggregate-four-rounds
+    four-rounds-requires
+    add-i
+    loop-less
+    loop-again
+    returns)

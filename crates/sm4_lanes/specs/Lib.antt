@@ -1,0 +1,3 @@
+-- Several SM4 blocks side by side.
+pub mod Lanes
+pub mod LanesLaws

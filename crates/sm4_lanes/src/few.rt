@@ -1,0 +1,64 @@
+// Three blocks under round keys that are stored, where no more are wanted.
+use crate::state::state_of;
+use crate::three::Three;
+use sm4::parameters::sbox;
+use sm4::round::round;
+ghost use mathlib.Core.Path.{_≡_};
+ghost use Prim.Native.Nat.{_+_, _≤_};
+ghost use lib.ListN.{length, drop};
+ghost use Rattle.sm4.specs.Sbox.{sbox};
+ghost use Rattle.sm4.specs.Sm4.{linear, steps};
+
+// Four rounds of each, with the round keys from i on.
+fn four_rounds(table: &[u8], keys: &[u32], s: Three, i: usize) -> Three
+    requires { ⌜ now table ≡ sbox ⌝ }
+    requires { ⌜ i + 4 ≤ length (now keys) ⌝ }
+    ensures { λ r. ⌜ r .first ≡ steps linear (drop i (now (keys .entry))) 4 (s .first) ⌝ }
+    ensures { λ r. ⌜ r .second ≡ steps linear (drop i (now (keys .entry))) 4 (s .second) ⌝ }
+    ensures { λ r. ⌜ r .third ≡ steps linear (drop i (now (keys .entry))) 4 (s .third) ⌝ }
+{
+    let p = s.first;
+    let q = s.second;
+    let u = s.third;
+    let ka = keys[i];
+    let kb = keys[i + 1];
+    let kc = keys[i + 2];
+    let kd = keys[i + 3];
+    let pa = round(table, p.a, p.b, p.c, p.d, ka);
+    let qa = round(table, q.a, q.b, q.c, q.d, ka);
+    let ua = round(table, u.a, u.b, u.c, u.d, ka);
+    let pb = round(table, p.b, p.c, p.d, pa, kb);
+    let qb = round(table, q.b, q.c, q.d, qa, kb);
+    let ub = round(table, u.b, u.c, u.d, ua, kb);
+    let pc = round(table, p.c, p.d, pa, pb, kc);
+    let qc = round(table, q.c, q.d, qa, qb, kc);
+    let uc = round(table, u.c, u.d, ua, ub, kc);
+    let pd = round(table, p.d, pa, pb, pc, kd);
+    let qd = round(table, q.d, qa, qb, qc, kd);
+    let ud = round(table, u.d, ua, ub, uc, kd);
+    let first = state_of(pa, pb, pc, pd);
+    let second = state_of(qa, qb, qc, qd);
+    let third = state_of(ua, ub, uc, ud);
+    Three {
+        first,
+        second,
+        third,
+    }
+}
+
+// The states after the 32 rounds.
+pub fn three_blocks(keys: &[u32], blocks: Three) -> Three
+    requires { ⌜ length (now keys) ≡ 32 ⌝ }
+    ensures { λ r. ⌜ r .first ≡ steps linear (now (keys .entry)) 32 (blocks .first) ⌝ }
+    ensures { λ r. ⌜ r .second ≡ steps linear (now (keys .entry)) 32 (blocks .second) ⌝ }
+    ensures { λ r. ⌜ r .third ≡ steps linear (now (keys .entry)) 32 (blocks .third) ⌝ }
+{
+    let table = sbox();
+    let mut s = blocks;
+    let mut i = 0;
+    while i < 32 {
+        s = four_rounds(&table, keys, s, i);
+        i += 4;
+    }
+    s
+}
