@@ -1,9 +1,9 @@
 // The desk's login, activate, sync and query in C over OpenSSL, as a good program without the proved library would have them: the
-// benchmark's peer. The rules and codes are those of tests/desk_reference.h; all that takes time is written for speed here.
+// benchmark's peer. The rules and codes are those of tests/library/desk_reference.h; all that takes time is written for speed here.
 #ifndef DESK_PEER_H
 #define DESK_PEER_H
 
-#include "../tests/desk_reference.h"
+#include "../tests/library/desk_reference.h"
 
 #include <endian.h>
 

@@ -2,7 +2,7 @@
 #ifndef DESK_REFUSALS_H
 #define DESK_REFUSALS_H
 
-#include "../tests/desk_reference.h"
+#include "../tests/library/desk_reference.h"
 #include "racing.h"
 
 #include <setjmp.h>

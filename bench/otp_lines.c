@@ -1,7 +1,7 @@
-// The line program beside the C program of tests/otp_peer.c: otp_lines OURS PEER INPUT FOLDER prints rows of the report's
+// The line program beside the C program of tests/programs/otp_peer.c: otp_lines OURS PEER INPUT FOLDER prints rows of the report's
 // table. The answers of the two stay in the folder, as `ours` and `peer`.
 #define _POSIX_C_SOURCE 200809L
-#include "../tests/otp_reference.h"
+#include "../tests/library/otp_reference.h"
 #include "dykeladder.h"
 #include "racing.h"
 

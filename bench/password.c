@@ -1,6 +1,6 @@
 // The one-time password beside the same computation over OpenSSL: prints rows of the report's table.
 #define _POSIX_C_SOURCE 200809L
-#include "../tests/otp_reference.h"
+#include "../tests/library/otp_reference.h"
 #include "dykeladder.h"
 #include "racing.h"
 
