@@ -17,12 +17,7 @@ use Rattle.window.specs.PasswordAt.{PasswordRule, hasBy}
 use Rattle.window.specs.TokenCheck.{singleCheck, pairCheck}
 use Rattle.window.specs.Asked.{outcomeOf}
 use Rattle.window.specs.Meaning.{Means, candidate-bounded, candidate-near, single-means, single-accepts-candidate, pair-means, pair-accepts-candidate}
-
--- the step of an accepting outcome is such
-abbrev pub IfAccepted : (ℕ → Type 0) → Outcome → Type 0
-IfAccepted P (Outcome.Accepted a) = P (a .0)
-IfAccepted P Outcome.Used = Unit {0}
-IfAccepted P Outcome.Wrong = Unit {0}
+use Rattle.token.specs.States.{IfAccepted}
 
 -- at or after `next`, below the end of all candidates, and for a time token at most 600 from the clock's step
 pub record Acceptable (k : Track) (clock a : ℕ) : Type 0 where

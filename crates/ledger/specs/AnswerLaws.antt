@@ -19,10 +19,11 @@ use Rattle.token.specs.declared.answers.Answer.{Answer}
 use Rattle.token.specs.declared.lines.Fails.{Fails}
 use Rattle.token.specs.declared.lines.Way.{Way}
 use Rattle.token.specs.Codes.{refusalNumber, numberOf}
+use Rattle.token.specs.States.{IfAccepted}
 use Rattle.desk.specs.Requests.{Request, DeskCall}
 use Rattle.desk.specs.Desk.{checkedOf}
 use Rattle.ledger.specs.Ledger.{Entry, Loaded, Marks, Reading, runOut, follows, entered, needing, offsetWith, judgedBy, trackOf, requested}
-use Rattle.ledger.specs.AcceptedLaws.{IfAccepted, Acceptable}
+use Rattle.ledger.specs.AcceptedLaws.{Acceptable}
 use Rattle.ledger.specs.LineLaws.{Listed, Checked, by-line}
 
 -- the step of a checked success is at or after `next`

@@ -22,10 +22,10 @@ use Rattle.token.specs.declared.lines.Line.{Line}
 use Rattle.token.specs.declared.deciding.Left.{Left}
 use Rattle.token.specs.declared.deciding.Decision.{Decision}
 use Rattle.token.specs.Lines.{void, lineOf, allowed}
-use Rattle.token.specs.States.{waited, accepted}
+use Rattle.token.specs.States.{waited, accepted, IfAccepted}
 use Rattle.token.specs.Deciding.{leftBy, judging, doing, deciding, decided}
 use Rattle.ledger.specs.Tokens.{Live, Leaves}
-use Rattle.ledger.specs.AcceptedLaws.{IfAccepted, Acceptable, asked-accepts}
+use Rattle.ledger.specs.AcceptedLaws.{Acceptable, asked-accepts}
 use Rattle.ledger.specs.RangeLaws.{leaves-next, waited-leaves, state-leaves, failed-leaves, accepted-leaves}
 
 -- what is left in place of the row r

@@ -29,10 +29,11 @@ use Rattle.token.specs.declared.lines.After.{After}
 use Rattle.token.specs.declared.lines.Line.{Line}
 use Rattle.token.specs.Lines.{void, atLogin, atSync, elsewhere, lineOf, allowed}
 use Rattle.token.specs.Codes.{refusalNumber}
+use Rattle.token.specs.States.{IfAccepted}
 use Rattle.desk.specs.Requests.{Request, challengeGiven, choiceOk, requestOk, sizeOf, valued, challengeOf}
 use Rattle.ledger.specs.Ledger.{Loaded, Marks, Reading, follows, isLogin, isQuery, trackOf, single, pair, withCheck, withoutCheck, requested}
 use Rattle.ledger.specs.RangeLaws.{test-passes}
-use Rattle.ledger.specs.AcceptedLaws.{IfAccepted, Acceptable, single-accepts, pair-accepts}
+use Rattle.ledger.specs.AcceptedLaws.{Acceptable, single-accepts, pair-accepts}
 
 -- what follows a line's success: the state, and whether the key is zeroed
 abbrev pub stateBy : After → ℕ → ℕ

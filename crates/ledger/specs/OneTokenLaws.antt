@@ -27,13 +27,13 @@ use Rattle.token.specs.declared.deciding.Left.{Left}
 use Rattle.token.specs.declared.deciding.Decision.{Decision}
 use Rattle.token.specs.Lines.{lineOf, allowed, stateRefusal}
 use Rattle.token.specs.Codes.{refusalNumber}
-use Rattle.token.specs.States.{waitOver, waited, withState, offsetAfter, accepted, failed}
+use Rattle.token.specs.States.{waitOver, waited, withState, offsetAfter, accepted, failed, IfAccepted}
 use Rattle.token.specs.Deciding.{refusing, leftBy, changing, judging, timely}
 use Rattle.desk.specs.Requests.{Request, valued}
 use Rattle.desk.specs.BranchLaws.{by-state}
 use Rattle.ledger.specs.Ledger.{Loaded, Marks, Reading, runOut, isLogin, needing, offsetWith, judgedBy, trackOf, rowOf, keyOf}
 use Rattle.ledger.specs.Tokens.{Token, kept}
-use Rattle.ledger.specs.AcceptedLaws.{IfAccepted, Acceptable}
+use Rattle.ledger.specs.AcceptedLaws.{Acceptable}
 use Rattle.ledger.specs.HistoryTokens.{tokenWith}
 use Rattle.ledger.specs.EntryRow.{Agrees}
 use Rattle.ledger.specs.LineLaws.{stateBy, wipes, Listed, made-alike, alive, leads-to-void, counts, errs, Failing}

@@ -24,7 +24,7 @@ use Rattle.token.specs.declared.lines.Way.{Way}
 use Rattle.token.specs.declared.lines.Line.{Line}
 use Rattle.token.specs.declared.deciding.Decision.{Decision}
 use Rattle.token.specs.Lines.{lineOf, allowed, stateRefusal}
-use Rattle.token.specs.States.{waited, Near, NearIfAccepted}
+use Rattle.token.specs.States.{waited, Near, IfAccepted}
 use Rattle.token.specs.Deciding.{refusing, judging, timely, doing, deciding, decided}
 
 -- ---- a step that a check accepts may be accepted
@@ -39,7 +39,7 @@ candidate-accepted k clock size a good c =
     below false l = omega arith
 
 pub checked-near : (passwords : PasswordRule) (k : Track) (clock : ℕ) (key challenge : List ℕ) (asked : Asked) (o : Outcome)
-    → Sound k clock → o ≡ outcomeOf passwords k clock key challenge asked → NearIfAccepted k clock o
+    → Sound k clock → o ≡ outcomeOf passwords k clock key challenge asked → IfAccepted (Near k clock) o
 checked-near passwords k clock key challenge asked (Outcome.Accepted a) good e =
     candidate-accepted k clock (windowSize asked) (a .0) good (asked-accepts-candidate passwords k clock key challenge asked (sym e))
 checked-near passwords k clock key challenge asked Outcome.Used good e = tt

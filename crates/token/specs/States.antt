@@ -72,8 +72,8 @@ pub record Near (k : Track) (clock a : ℕ) : Type 0 where
   pub fits : a < 2 ^ 41
   pub close : k .scheme .kind ≡ timeToken → distance a (stepAt clock (k .period)) ≤ farthest
 
--- a step that a check has accepted is such
-abbrev pub NearIfAccepted : Track → ℕ → Outcome → Type 0
-NearIfAccepted k clock (Outcome.Accepted a) = Near k clock (a .0)
-NearIfAccepted k clock Outcome.Used = Unit {0}
-NearIfAccepted k clock Outcome.Wrong = Unit {0}
+-- the step of an accepting outcome is such
+abbrev pub IfAccepted : (ℕ → Type 0) → Outcome → Type 0
+IfAccepted P (Outcome.Accepted a) = P (a .0)
+IfAccepted P Outcome.Used = Unit {0}
+IfAccepted P Outcome.Wrong = Unit {0}

@@ -26,7 +26,7 @@ ghost use mathlib.Core.Bool.{true};
 ghost use Rattle.window.specs.Window.{Sound};
 ghost use Rattle.window.specs.PasswordAt.{passwordAt, inRange};
 ghost use Rattle.token.specs.Lines.{lineOf};
-ghost use Rattle.token.specs.States.{waited, NearIfAccepted};
+ghost use Rattle.token.specs.States.{waited, Near, IfAccepted};
 ghost use Rattle.token.specs.Deciding.{refusing, leftBy, changing, telling, judging, decided};
 
 // What becomes of a row's key.
@@ -95,7 +95,7 @@ fn telling(line: Line, row: Row) -> Decision
 // The check's outcome decides: success, used, wrong.
 fn judging(line: Line, fails: Fails, row: Row, clock: Seconds, outcome: Outcome) -> Decision
     requires { ⌜ Sound (row .track) (clock .0) ⌝ }
-    requires { ⌜ NearIfAccepted (row .track) (clock .0) outcome ⌝ }
+    requires { ⌜ IfAccepted (Near (row .track) (clock .0)) outcome ⌝ }
     ensures { λ r. ⌜ r ≡ judging line fails row (clock .0) outcome ⌝ }
 {
     match outcome {
