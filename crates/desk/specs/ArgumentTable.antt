@@ -10,17 +10,18 @@ use Rattle.words.specs.Bytes.{beAt, beBytes, putBe}
 use Rattle.words.specs.Lists.{sameBytes, allZero, allWithin}
 use Rattle.otp.specs.Password.{decimals, challengeOk}
 use Rattle.otp.specs.Numbers.{numberFrom}
-use Rattle.otp.specs.Typed.{passwordOk, digitsOf}
+use Rattle.otp.specs.Typed.{passwordOk, digitsOf, asPassword}
 use Rattle.window.specs.Window.{timeCandidate, candidate, beyond}
 use Rattle.window.specs.Check.{smallest, checked}
 use Rattle.window.specs.TokenCheck.{singleCheck, pairCheck}
 use Rattle.row.specs.Row.{rowBytes, rowAt, numberTests, numbersOk, zerosOk, wellFormed}
 use Rattle.row.specs.Table.{hasSerial, firstRow, findRow, findEmpty, located, storeRow, wipeKey}
+use Rattle.token.specs.declared.lines.Request.{Request as Valued}
 use Rattle.token.specs.Codes.{numberOf}
 use Rattle.token.specs.States.{waitOver, waited, withState, accepted, failed}
 use Rattle.token.specs.Deciding.{deciding, decided}
 use Rattle.desk.specs.Requests.{Request, DeskCall, tableOk, challengeGiven, requestOk, loadOk}
-use Rattle.desk.specs.Desk.{Result, servedAt, deskAfter}
+use Rattle.desk.specs.Desk.{Result, servedAt, served, deskAfter}
 use Rattle.desk.specs.CallLines.{rowWith, bySteps}
 
 -- a ready token with the serial 9 is all of the table
@@ -103,6 +104,29 @@ refusedCalls =
     ++ (challenged (replicate 3 0x21)
     ++ (challenged (replicate 33 0x21)
     ++ (challenged (0x20 ∷ replicate 3 0x21) ++ (challenged (replicate 3 0x21 ++ (0x7f ∷ [])) ++ (chosen 0 ++ chosen 3)))))))))))
+
+-- ---- a request by value: a challenge login needs its challenge, any other request goes without one
+
+abbrev pub servedWith : Valued → List ℕ → Result
+servedWith request q = served bySteps request q 9 1059 oneRow
+
+abbrev pub challengeTaken : Valued → List ℕ → Bool
+challengeTaken request q = not (isRefused (servedWith request q))
+
+abbrev pub challengeRefused : Valued → List ℕ → Bool
+challengeRefused request q = isRefused (servedWith request q) && sameBytes (servedWith request q .table) oneRow
+
+abbrev pub byChallenge : Valued
+byChallenge = Valued.ChallengeLogin (asPassword digits)
+
+pub lent-challenges-hold :
+    (challengeTaken byChallenge (replicate 4 0x21) && challengeTaken Valued.Lock [])
+    && (challengeRefused byChallenge [] && (challengeRefused byChallenge (replicate 3 0x21) && challengeRefused Valued.Lock (replicate 3 0x21)))
+    ≡ true
+unfolding beAt beBytes putBe sameBytes allZero allWithin decimals challengeOk numberFrom digitsOf timeCandidate candidate beyond smallest checked singleCheck
+    rowAt numberTests numbersOk zerosOk wellFormed hasSerial firstRow findRow located storeRow
+    waitOver waited withState accepted failed deciding decided servedAt tableOk challengeGiven served
+lent-challenges-hold = refl
 
 -- ---- a load's values; a load that is taken finds the table full
 
