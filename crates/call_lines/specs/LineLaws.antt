@@ -147,14 +147,14 @@ module _ (fields : List (List ℕ)) (serial clock : ℕ) where
 
     module _ (t : not (ok && r .ok) ≡ false) where
       decoded-key : (hexOf (fieldOf fields 7) ≡ some (take (r .len - 0) (drop 0 (r .bytes)))) × (r .len ≤ length (r .bytes))
-      decoded-key = bytes-decoded same key (and-right ok (r .ok) (not-false (ok && r .ok) t))
+      decoded-key = bytes-decoded same key (and-right ok _ (not-false (ok && r .ok) t))
 
       pub key-within : r .len ≤ length (r .bytes)
       key-within = decoded-key .1
 
       pub load-read : loadLine fields serial clock ≡ some (DeskCall.load p (take (r .len - 0) (drop 0 (r .bytes))))
       unfolding loadLine taken
-      load-read = rw (read, and-left ok (r .ok) (not-false (ok && r .ok) t), decoded-key .0)
+      load-read = rw (read, and-left ok _ (not-false (ok && r .ok) t), decoded-key .0)
 
 -- six numbers are the particulars where each of them was right
 module _ (fields : List (List ℕ)) (serial expiry kind algorithm digits period limit wait : ℕ) where

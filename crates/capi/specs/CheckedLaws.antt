@@ -72,14 +72,14 @@ asked-outcome : (k : Track) (clock : ℕ) (size : Size) (key challenge presented
     → outcomeOf passwordAt k clock key challenge (askedOf size challenge presented following) ≡ checkOf k clock size key challenge presented following
 unfolding passwordsOk checkOf
 asked-outcome k clock size key challenge presented following t =
-    let first = digits-back presented (and-left (passwordOk presented) (eqb (length following) 0 || (eqb (length challenge) 0 && passwordOk following)) t) in
+    let first = digits-back presented (and-left _ _ t) in
     by-test (eqb (length following) 0)
     (λ n. by-test (eqb (length challenge) 0)
     (λ e. rw (n, e, first, no-bytes challenge (eqb-true (length challenge) 0 e)))
     (λ e. rw (n, e, first)))
     (λ n.
-    let rest : eqb (length challenge) 0 && passwordOk following ≡ true = rw n at (and-right (passwordOk presented) (eqb (length following) 0 || (eqb (length challenge) 0 && passwordOk following)) t) in
-    rw (n, first, digits-back following (and-right (eqb (length challenge) 0) (passwordOk following) rest)))
+    let rest : eqb (length challenge) 0 && passwordOk following ≡ true = rw n at (and-right (passwordOk presented) _ t) in
+    rw (n, first, digits-back following (and-right (eqb (length challenge) 0) _ rest)))
 
 module _ (k : Track) (clock size : ℕ) (key challenge out : List ℕ) {b : Bool} (tested : b ≡ checkNumbersOk k clock size key challenge) where
   pub check-refused : (presented following : List ℕ) → not (b && ltb 0 (length out)) ≡ true
@@ -97,10 +97,10 @@ module _ (k : Track) (clock size : ℕ) (key challenge out : List ℕ) {b : Bool
     passed = not-false (b && ltb 0 (length out)) t
 
     ranged : checkNumbersOk k clock size key challenge ≡ true
-    ranged = sym tested ∙ and-left b (ltb 0 (length out)) passed
+    ranged = sym tested ∙ and-left _ _ passed
 
     pub check-room : 0 < length out
-    check-room = ltb-true 0 (length out) (and-right b (ltb 0 (length out)) passed)
+    check-room = ltb-true 0 (length out) (and-right b _ passed)
 
     -- what the check asks for
     pub check-asked : Sound k clock × (inRange (k .scheme) key challenge ≡ true)
@@ -128,7 +128,7 @@ module _ (k : Track) (clock size : ℕ) (key challenge out : List ℕ) {b : Bool
           (λ p.
           let y : Presented.Is (askedOf z challenge presented following) ≡ Presented.Is asked = sym (read ∙ rw p) ∙ e in
           let a : asked ≡ askedOf z challenge presented following = cc in
-          rw (ranged, p, and-right b (ltb 0 (length out)) passed, m, a, asked-outcome k clock z key challenge presented following p, sized))
+          rw (ranged, p, and-right b _ passed, m, a, asked-outcome k clock z key challenge presented following p, sized))
           (λ p. let y : Presented.Bad ≡ Presented.Is asked = sym (read ∙ rw p) ∙ e in impossible (cc))
 
 -- the first element is written

@@ -38,12 +38,12 @@ unfolding numberFrom decimals allWithin
 decimals-number k x [] t = rw (add-zero k) (sym (append-nil (decimals k x)))
 decimals-number k x (b ∷ s) t =
     let w = and-left (leb 48 b && leb b 57) (allWithin 48 57 s) t in
-    let low = leb-true 48 b (and-left (leb 48 b) (leb b 57) w) in
-    let high = leb-true b 57 (and-right (leb 48 b) (leb b 57) w) in
+    let low = leb-true 48 b (and-left _ _ w) in
+    let high = leb-true b 57 (and-right (leb 48 b) _ w) in
     let q : (x * 10 + (b - 48)) / 10 ≡ x = omega (arith, low, high) in
     let r : 48 + (x * 10 + (b - 48)) % 10 ≡ b = omega (arith, low, high) in
     let e : k + suc (length s) ≡ suc k + length s = omega arith in
-    rw e (decimals-number (suc k) (x * 10 + (b - 48)) s (and-right (leb 48 b && leb b 57) (allWithin 48 57 s) t)
+    rw e (decimals-number (suc k) (x * 10 + (b - 48)) s (and-right (leb 48 b && leb b 57) _ t)
     ∙ rw (q, r) (append-assoc (decimals k x) (b ∷ []) s))
 
 -- ---- the law: digits are the same exactly if the numbers that they show are

@@ -20,7 +20,7 @@ module _ (s : List ℕ) where
   -- a password's digits are those that were typed
   pub digits-back : passwordOk s ≡ true → digitsOf (asPassword s) ≡ s
   unfolding passwordOk digitsOf decimals
-  digits-back t = rw (zero-add (length s)) at (decimals-number 0 0 s (and-right (leb 6 (length s) && leb (length s) 10) (allWithin 0x30 0x39 s) t))
+  digits-back t = rw (zero-add (length s)) at (decimals-number 0 0 s (and-right (leb 6 (length s) && leb (length s) 10) _ t))
 
   module _ {x : Typed} (read : x ≡ typedOf s) where
     pub typed-is : {p : Password} → x ≡ Typed.Is p → (passwordOk s ≡ true) × (p ≡ asPassword s)
@@ -44,7 +44,7 @@ module _ (s : List ℕ) where
   typed-miscounted t = rw (not-true (leb 6 (length s) && leb (length s) 10) t)
 
   pub typed-counted : not (leb 6 (length s) && leb (length s) 10) ≡ false → length s ≤ 10
-  typed-counted t = leb-true (length s) 10 (and-right (leb 6 (length s)) (leb (length s) 10) (not-false _ t))
+  typed-counted t = leb-true (length s) 10 (and-right (leb 6 (length s)) _ (not-false _ t))
 
   module _ {b : Bool} (w : b ≡ allWithin 0x30 0x39 s) where
     pub typed-other : not b ≡ true → Typed.Bad ≡ typedOf s

@@ -70,7 +70,7 @@ module _ (passwords : PasswordRule) where
     filling-open t =
         let a = ltb at (length piece) in
         let b = leb end 65536 in
-        (ltb-true at (length piece) (and-left a b t), leb-true end 65536 (and-right a b t))
+        (ltb-true at (length piece) (and-left _ _ t), leb-true end 65536 (and-right a _ t))
 
     pub filling-more : {line′ table′ out′ : List ℕ} {used n′ : ℕ} {fresh′ : Bool} {rows′ end′ : ℕ} → ltb at (length piece) && leb end 65536 ≡ true
         → length line′ ≡ length line → length table′ ≡ length table → length out′ ≡ length out

@@ -35,10 +35,10 @@ module _ (i : ℕ) (h : i < 256) where
   entry-passes = entry-rule entry-test sbox entries-pass i (rw sbox-length h)
 
   pub sbox-byte : substitute i < 256
-  sbox-byte = ltb-true (substitute i) 256 (and-left (ltb (substitute i) 256) (eqb (place (substitute i)) i) entry-passes)
+  sbox-byte = ltb-true (substitute i) 256 (and-left _ _ entry-passes)
 
   pub place-of-entry : place (substitute i) ≡ i
-  place-of-entry = eqb-true (place (substitute i)) i (and-right (ltb (substitute i) 256) (eqb (place (substitute i)) i) entry-passes)
+  place-of-entry = eqb-true (place (substitute i)) i (and-right (ltb (substitute i) 256) _ entry-passes)
 
 module _ (v : ℕ) (h : v < 256) where
   place-passes : ltb (place v) 256 && eqb (substitute (place v)) v ≡ true
@@ -48,7 +48,7 @@ module _ (v : ℕ) (h : v < 256) where
   -- each byte stands in the S-box once
   pub sbox-once : HeldOnce v (place v)
   sbox-once = record {
-    within = ltb-true (place v) 256 (and-left (ltb (place v) 256) (eqb (substitute (place v)) v) place-passes);
-    held = eqb-true (substitute (place v)) v (and-right (ltb (place v) 256) (eqb (substitute (place v)) v) place-passes);
+    within = ltb-true (place v) 256 (and-left _ _ place-passes);
+    held = eqb-true (substitute (place v)) v (and-right (ltb (place v) 256) _ place-passes);
     alone = λ j l e. sym (place-of-entry j l) ∙ ap place e;
   }

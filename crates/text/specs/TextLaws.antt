@@ -24,7 +24,7 @@ none-some e = impossible (cc)
 -- ---- digits
 
 pub from-range : (lo b : ℕ) (t : Bool) → leb lo b && t ≡ true → lo ≤ b
-from-range lo b t e = leb-true lo b (and-left (leb lo b) t e)
+from-range lo b t e = leb-true lo b (and-left _ _ e)
 
 -- only the digit zero has the value zero
 digit-positive : (b : ℕ) → (b ≡ 0x30 → ⊥) → 0 < digitValue b
@@ -46,7 +46,7 @@ pub decimal-range : (b : ℕ) → leb 0x30 b && leb b 0x39 ≡ ltb (digitValue b
 unfolding digitValue
 decimal-range b =
     by-test (leb 0x30 b && leb b 0x39)
-    (λ t. let l = leb-true b 0x39 (and-right (leb 0x30 b) (leb b 0x39) t) in rw (t, lt-ltb (b - 0x30) 10 (omega arith)))
+    (λ t. let l = leb-true b 0x39 (and-right (leb 0x30 b) _ t) in rw (t, lt-ltb (b - 0x30) 10 (omega arith)))
     (λ f. by-test (leb 0x41 b && leb b 0x46)
     (λ t. let l = from-range 0x41 b (leb b 0x46) t in rw (f, t, le-ltb (b - 0x37) 10 (omega arith)))
     (λ g. by-test (leb 0x61 b && leb b 0x66)
@@ -58,7 +58,7 @@ pub decimal-value : (b : ℕ) → ltb (digitValue b) 10 ≡ true → (digitValue
 unfolding digitValue
 decimal-value b e =
     let t = decimal-range b ∙ e in
-    (rw t, (from-range 0x30 b (leb b 0x39) t, leb-true b 0x39 (and-right (leb 0x30 b) (leb b 0x39) t)))
+    (rw t, (from-range 0x30 b (leb b 0x39) t, leb-true b 0x39 (and-right (leb 0x30 b) _ t)))
 
 -- ---- decimal numbers
 
@@ -127,8 +127,8 @@ hex-is (h ∷ l ∷ s) =
     let e : suc (suc (length s)) % 2 ≡ length s % 2 = omega arith in
     rw (e, hex-is s)
     (pair-tests (eqb (length s % 2) 0) (ltb (digitValue h) 16) (ltb (digitValue l) 16) (allHex (map digitValue s)) (pairsOf (map digitValue s))
-    (λ t. let high = ltb-true (digitValue h) 16 (and-left (ltb (digitValue h) 16) (ltb (digitValue l) 16) t) in
-    let low = ltb-true (digitValue l) 16 (and-right (ltb (digitValue h) 16) (ltb (digitValue l) 16) t) in
+    (λ t. let high = ltb-true (digitValue h) 16 (and-left _ _ t) in
+    let low = ltb-true (digitValue l) 16 (and-right (ltb (digitValue h) 16) _ t) in
     omega arith))
 
 pub length-pairs : (s : List ℕ) → length (pairsOf (map digitValue s)) ≡ length s / 2
@@ -144,7 +144,7 @@ module _ (s : List ℕ) {b : List ℕ} (e : hexOf s ≡ some b) where
   -- two digits to a byte
   pub hex-length : length s ≡ 2 * length b
   hex-length =
-      let even = eqb-true (length s % 2) 0 (and-left (eqb (length s % 2) 0) (allHex (map digitValue s)) hex-tests) in
+      let even = eqb-true (length s % 2) 0 (and-left _ _ hex-tests) in
       let h : some (pairsOf (map digitValue s)) ≡ some b = rw (hex-is, hex-tests) at e in
       let p : pairsOf (map digitValue s) ≡ b = cc in
       let l : length b ≡ length s / 2 = rw (← p) (length-pairs s) in

@@ -20,8 +20,8 @@ same-equal [] (y ∷ b) t = cc
 same-equal (x ∷ a) [] t = cc
 same-equal (x ∷ a) (y ∷ b) t =
     ap₂ (λ (u : ℕ) (l : List ℕ). u ∷ l)
-    (eqb-true x y (and-left (eqb x y) (sameBytes a b) t))
-    (same-equal a b (and-right (eqb x y) (sameBytes a b) t))
+    (eqb-true x y (and-left _ _ t))
+    (same-equal a b (and-right (eqb x y) _ t))
 
 pub same-refl : (a : List ℕ) → sameBytes a a ≡ true
 unfolding sameBytes

@@ -6,7 +6,7 @@ use Rattle.password_lines.proofs.fields.digit.Statement.{statement}
 use Rattle.password_lines.proofs.fields.digit.Tie as tie
 
 sub-result : tie.Need-sub-result
-sub-result c = leb-true 0x30 (c .before .args .b) (and-left (leb 0x30 (c .before .args .b)) (leb (c .before .args .b) 0x39) (c .if1 .taken))
+sub-result c = leb-true 0x30 (c .before .args .b) (and-left _ _ (c .if1 .taken))
 
 returns : tie.Need-returns
 returns c = small-digit (c .before .args .b) (c .if1 .taken)
