@@ -11,8 +11,11 @@ use Rattle.otp.specs.Password.{decimals}
 use Rattle.otp.specs.Numbers.{numberFrom}
 
 -- 6 to 10 ASCII digits
+abbrev pub countOk : ℕ → Bool
+countOk n = leb 6 n && leb n 10
+
 unfoldable pub passwordOk : List ℕ → Bool
-passwordOk s = (leb 6 (length s) && leb (length s) 10) && allWithin 0x30 0x39 s
+passwordOk s = countOk (length s) && allWithin 0x30 0x39 s
 
 -- how many digits, and the number that they show
 abbrev pub asPassword : List ℕ → Password
