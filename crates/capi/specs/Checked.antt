@@ -16,6 +16,7 @@ use Rattle.window.specs.declared.asked.Asked.{Asked}
 use Rattle.window.specs.declared.asked.Asked.the-variants.{One, Challenged, Two}
 use Rattle.window.specs.PasswordAt.{passwordAt, inRange, hasBy}
 use Rattle.window.specs.TokenCheck.{singleCheck, pairCheck}
+use Rattle.window.specs.Sweep.{computedTo}
 use Rattle.row.specs.Row.{trackOk}
 use Rattle.desk.specs.Requests.{clockOk}
 use Rattle.capi.specs.declared.checking.Presented.{Presented}
@@ -69,14 +70,37 @@ checkOf k clock size key challenge presented following =
     (singleCheck k clock size (hasBy passwordAt (k .scheme) key challenge presented))
     (pairCheck k clock size (hasBy passwordAt (k .scheme) key [] presented) (hasBy passwordAt (k .scheme) key [] following))
 
--- an accepted step goes to the first element; any other outcome leaves the output as it was
+-- each presented password has the token's count of digits
+abbrev pub digitsRight : ℕ → List ℕ → List ℕ → Bool
+digitsRight digits presented following = eqb (length presented) digits && (eqb (length following) 0 || eqb (length following) digits)
+
+-- how many passwords it computes (document 02, Ask 2)
+unfoldable pub checkComputed : Track → ℕ → Size → List ℕ → List ℕ → List ℕ → List ℕ → ℕ
+checkComputed k clock size key challenge presented following =
+    cond (digitsRight (k .scheme .digits) presented following) (computedTo k clock size (checkOf k clock size key challenge presented following)) 0
+
+-- ---- what is left: the code, the accepted step and the count
+
+pub record CheckLeft : Type 0 where
+  pub code : ℕ
+  pub step : List ℕ
+  pub computed : List ℕ
+
+abbrev pub checked : ℕ → List ℕ → List ℕ → CheckLeft
+checked code step computed = record { code = code; step = step; computed = computed }
+
+-- an accepted step goes to the first element; any other outcome leaves that output as it was
 abbrev pub outcomeLeft : Outcome → List ℕ → Left
 outcomeLeft (Accepted s) out = left done (s .0 ∷ drop 1 out)
 outcomeLeft Used out = left 0x8004 out
 outcomeLeft Wrong out = left 0x8002 out
 
-unfoldable pub checkLeft : Track → ℕ → ℕ → List ℕ → List ℕ → List ℕ → List ℕ → List ℕ → Left
-checkLeft k clock size key challenge presented following out =
-    cond (checkArgumentsOk k clock size key challenge presented following && ltb 0 (length out))
-    (outcomeLeft (checkOf k clock (sizeOf size) key challenge presented following) out)
-    (left badArgument out)
+-- the count goes to the first element of its output, whatever the outcome
+abbrev pub outcomeCounted : Outcome → ℕ → List ℕ → List ℕ → CheckLeft
+outcomeCounted o n step computed = checked (outcomeLeft o step .code) (outcomeLeft o step .out) (n ∷ drop 1 computed)
+
+unfoldable pub checkLeft : Track → ℕ → ℕ → List ℕ → List ℕ → List ℕ → List ℕ → List ℕ → List ℕ → CheckLeft
+checkLeft k clock size key challenge presented following step computed =
+    cond (checkArgumentsOk k clock size key challenge presented following && (ltb 0 (length step) && ltb 0 (length computed)))
+    (outcomeCounted (checkOf k clock (sizeOf size) key challenge presented following) (checkComputed k clock (sizeOf size) key challenge presented following) step computed)
+    (checked badArgument step computed)

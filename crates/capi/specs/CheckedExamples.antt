@@ -10,7 +10,7 @@ use Rattle.window.specs.declared.Outcome.the-variants.{Accepted, Used, Wrong}
 use Rattle.otp.specs.Password.{challengeOk, argumentsOk}
 use Rattle.otp.specs.Typed.{passwordOk}
 use Rattle.row.specs.Row.{trackOk}
-use Rattle.capi.specs.Checked.{trackOf, checkNumbersOk, passwordsOk, checkArgumentsOk, outcomeLeft}
+use Rattle.capi.specs.Checked.{trackOf, checkNumbersOk, passwordsOk, checkArgumentsOk, outcomeCounted}
 
 -- n bytes of one value: 0x30 to 0x39 are digits
 abbrev some : ℕ → ℕ → List ℕ
@@ -93,7 +93,10 @@ examples-refused = refl
 abbrev outcomes : List Outcome
 outcomes = Accepted (record { 0 = 5 }) ∷ Used ∷ Wrong ∷ []
 
--- an accepted step goes to the first element; used and wrong leave the output
-pub outcomes-coded : map (λ o. outcomeLeft o (7 ∷ 8 ∷ [])) outcomes
-    ≡ record { code = 0; out = 5 ∷ 8 ∷ [] } ∷ record { code = 0x8004; out = 7 ∷ 8 ∷ [] } ∷ record { code = 0x8002; out = 7 ∷ 8 ∷ [] } ∷ []
+-- an accepted step goes to the first element; used and wrong leave that output; the count is always written
+pub outcomes-coded : map (λ o. outcomeCounted o 3 (7 ∷ 8 ∷ []) (9 ∷ 10 ∷ [])) outcomes
+    ≡ record { code = 0; step = 5 ∷ 8 ∷ []; computed = 3 ∷ 10 ∷ [] }
+    ∷ record { code = 0x8004; step = 7 ∷ 8 ∷ []; computed = 3 ∷ 10 ∷ [] }
+    ∷ record { code = 0x8002; step = 7 ∷ 8 ∷ []; computed = 3 ∷ 10 ∷ [] }
+    ∷ []
 outcomes-coded = refl

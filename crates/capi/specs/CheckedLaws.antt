@@ -1,14 +1,15 @@
 -- The ways through dl_check.
 use Prim.Native.Nat.{ℕ, _≤_, _<_, _^_}
-use mathlib.Core.Path.{_≡_, refl, sym, _∙_}
-use mathlib.Core.Bool.{Bool, true, false, not, _&&_, _||_, cond}
+use mathlib.Core.Path.{_≡_, refl, sym, ap, _∙_}
+use mathlib.Core.Bool.{Bool, true, false, not, _&&_}
 use mathlib.Core.List.{List, [], _∷_}
 use native.Mathlib.Omega.{arith}
 use borrow.Author.Tests.{not-true, not-false, ltb-true, eq-eqb, ne-eqb, eqb-true}
 use lib.Dec.{eqb, ltb}
 use lib.ListN.{length, drop, set}
-use Rattle.words.specs.BoolLaws.{and-left, and-right, and-false, by-test, impossible}
+use Rattle.words.specs.BoolLaws.{and-left, and-right, and-true, and-false, by-test, impossible}
 use Rattle.words.specs.Codes.{badArgument}
+use Rattle.words.specs.Output.{Left}
 use Rattle.otp.specs.declared.typed.Password.{Password}
 use Rattle.otp.specs.declared.typed.Typed.{Typed}
 use Rattle.otp.specs.Typed.{passwordOk, typedOf}
@@ -20,12 +21,13 @@ use Rattle.window.specs.declared.asked.Asked.{Asked}
 use Rattle.window.specs.Window.{Sound}
 use Rattle.window.specs.PasswordAt.{passwordAt, inRange}
 use Rattle.window.specs.Asked.{outcomeOf}
+use Rattle.window.specs.Sweep.{computedOf}
 use Rattle.row.specs.Row.{trackOk}
 use Rattle.row.specs.RangeLaws.{track-sound}
 use Rattle.desk.specs.Requests.{clockOk}
 use Rattle.capi.specs.declared.checking.Presented.{Presented}
 use Rattle.capi.specs.Stored.{left}
-use Rattle.capi.specs.Checked.{sizeOf, checkNumbersOk, passwordsOk, checkArgumentsOk, askedOf, presentedOf, checkOf, outcomeLeft, checkLeft}
+use Rattle.capi.specs.Checked.{sizeOf, checkNumbersOk, passwordsOk, checkArgumentsOk, askedOf, presentedOf, checkOf, checkComputed, checked, outcomeLeft, outcomeCounted, checkLeft}
 
 -- ---- what is asked
 
@@ -81,26 +83,46 @@ asked-outcome k clock size key challenge presented following t =
     let rest : eqb (length challenge) 0 && passwordOk following ≡ true = rw n at (and-right (passwordOk presented) _ t) in
     rw (n, first, digits-back following (and-right (eqb (length challenge) 0) _ rest)))
 
-module _ (k : Track) (clock size : ℕ) (key challenge out : List ℕ) {b : Bool} (tested : b ≡ checkNumbersOk k clock size key challenge) where
-  pub check-refused : (presented following : List ℕ) → not (b && ltb 0 (length out)) ≡ true
-      → left badArgument out ≡ checkLeft k clock size key challenge presented following out
+-- and computes as many
+asked-computed : (k : Track) (clock : ℕ) (size : Size) (key challenge presented following : List ℕ) → passwordsOk challenge presented following ≡ true
+    → computedOf passwordAt k clock key challenge (askedOf size challenge presented following) ≡ checkComputed k clock size key challenge presented following
+unfolding computedOf checkComputed
+asked-computed k clock size key challenge presented following t =
+    rw (asked-outcome k clock size key challenge presented following t)
+    (by-test (eqb (length following) 0)
+    (λ n. by-test (eqb (length challenge) 0)
+    (λ e. rw (n, e, and-true (eqb (length presented) (k .scheme .digits))))
+    (λ e. rw (n, e, and-true (eqb (length presented) (k .scheme .digits)))))
+    (λ n. rw n))
+
+module _ (k : Track) (clock size : ℕ) (key challenge step computed : List ℕ) {b : Bool} (tested : b ≡ checkNumbersOk k clock size key challenge) where
+  -- both outputs have room
+  abbrev room : Bool
+  room = ltb 0 (length step) && ltb 0 (length computed)
+
+  pub check-refused : (presented following : List ℕ) → not (b && room) ≡ true → checked badArgument step computed ≡ checkLeft k clock size key challenge presented following step computed
   unfolding checkArgumentsOk checkLeft
-  check-refused presented following t =
-      rw (← tested) (turned b (passwordsOk challenge presented following) (ltb 0 (length out)) (not-true (b && ltb 0 (length out)) t))
+  check-refused presented following t = rw (← tested, turned b (passwordsOk challenge presented following) room (not-true (b && room) t))
     where
-      turned : (b p o : Bool) → b && o ≡ false → left badArgument out ≡ cond (b && p && o) (outcomeLeft (checkOf k clock (sizeOf size) key challenge presented following) out) (left badArgument out)
+      turned : (b p o : Bool) → b && o ≡ false → b && p && o ≡ false
       turned false p o e = refl
       turned true p o e = rw (e, and-false p)
 
-  module _ (t : not (b && ltb 0 (length out)) ≡ false) where
-    passed : b && ltb 0 (length out) ≡ true
-    passed = not-false (b && ltb 0 (length out)) t
+  module _ (t : not (b && room) ≡ false) where
+    passed : b && room ≡ true
+    passed = not-false (b && room) t
 
     ranged : checkNumbersOk k clock size key challenge ≡ true
     ranged = sym tested ∙ and-left _ _ passed
 
-    pub check-room : 0 < length out
-    check-room = ltb-true 0 (length out) (and-right b _ passed)
+    roomy : room ≡ true
+    roomy = and-right b _ passed
+
+    pub step-room : 0 < length step
+    step-room = ltb-true 0 (length step) (and-left _ _ roomy)
+
+    pub computed-room : 0 < length computed
+    computed-room = ltb-true 0 (length computed) (and-right (ltb 0 (length step)) _ roomy)
 
     -- what the check asks for
     pub check-asked : Sound k clock × (inRange (k .scheme) key challenge ≡ true)
@@ -113,25 +135,30 @@ module _ (k : Track) (clock size : ℕ) (key challenge out : List ℕ) {b : Bool
         (track-sound k o clock (ltb-true clock (2 ^ 40) c), i)
 
     module _ (presented following : List ℕ) {z : Size} {x : Presented} (sized : z ≡ sizeOf size) (read : x ≡ presentedOf z challenge presented following) where
-      pub check-unread : x ≡ Presented.Bad → left badArgument out ≡ checkLeft k clock size key challenge presented following out
+      pub check-unread : x ≡ Presented.Bad → checked badArgument step computed ≡ checkLeft k clock size key challenge presented following step computed
       unfolding presentedOf checkArgumentsOk checkLeft
       check-unread e =
           by-test (passwordsOk challenge presented following)
           (λ p. let y : Presented.Is (askedOf z challenge presented following) ≡ Presented.Bad = sym (read ∙ rw p) ∙ e in impossible (cc))
           (λ p. rw (p, and-false (checkNumbersOk k clock size key challenge)))
 
-      pub check-made : {asked : Asked} {o : Outcome} → x ≡ Presented.Is asked → o ≡ outcomeOf passwordAt k clock key challenge asked
-          → outcomeLeft o out ≡ checkLeft k clock size key challenge presented following out
+      pub check-made : {asked : Asked} {o : Outcome} {n : ℕ} → x ≡ Presented.Is asked → o ≡ outcomeOf passwordAt k clock key challenge asked → n ≡ computedOf passwordAt k clock key challenge asked
+          → outcomeCounted o n step computed ≡ checkLeft k clock size key challenge presented following step computed
       unfolding presentedOf checkArgumentsOk checkLeft
-      check-made {asked} e m =
+      check-made {asked} e m c =
           by-test (passwordsOk challenge presented following)
           (λ p.
           let y : Presented.Is (askedOf z challenge presented following) ≡ Presented.Is asked = sym (read ∙ rw p) ∙ e in
           let a : asked ≡ askedOf z challenge presented following = cc in
-          rw (ranged, p, and-right b _ passed, m, a, asked-outcome k clock z key challenge presented following p, sized))
+          rw (ranged, p, roomy, m, c, a, asked-outcome k clock z key challenge presented following p, asked-computed k clock z key challenge presented following p, sized))
           (λ p. let y : Presented.Bad ≡ Presented.Is asked = sym (read ∙ rw p) ∙ e in impossible (cc))
 
 -- the first element is written
 pub write-first : (s : List ℕ) (x : ℕ) → 0 < length s → set s 0 x ≡ x ∷ drop 1 s
 write-first [] x h = absurd (omega arith)
 write-first (y ∷ s) x h = refl
+
+-- both outputs are written
+pub both-written : (step computed : List ℕ) (o : Outcome) (n : ℕ) {code : ℕ} {after : List ℕ} → 0 < length computed → left code after ≡ outcomeLeft o step
+    → checked code after (set computed 0 n) ≡ outcomeCounted o n step computed
+both-written step computed o n h e = rw (write-first computed n h) (ap (λ (x : Left). checked (x .code) (x .out) (n ∷ drop 1 computed)) e)

@@ -19,7 +19,7 @@ ghost use mathlib.Core.Path.{_≡_};
 ghost use Prim.Native.Nat.{_<_};
 ghost use lib.ListN.{length};
 ghost use Rattle.capi.specs.Stored.{left};
-ghost use Rattle.capi.specs.Checked.{trackOf, sizeOf, presentedOf, checkNumbersOk, outcomeLeft, checkLeft};
+ghost use Rattle.capi.specs.Checked.{trackOf, sizeOf, presentedOf, checkNumbersOk, checked, outcomeLeft, checkLeft};
 
 const WRONG: u16 = 0x8002;
 
@@ -90,7 +90,7 @@ fn put_outcome(outcome: Outcome, step: &mut [u64]) -> u16
     }
 }
 
-// The check of one presented password, or of two; an accepted step goes to the first element of step.
+// The check of one presented password, or of two; an accepted step goes to the first element of step, and how many passwords were computed to that of computed.
 #[no_mangle]
 pub extern "C" fn dl_check(
     kind: u8,
@@ -106,8 +106,9 @@ pub extern "C" fn dl_check(
     presented: &[u8],
     following: &[u8],
     step: &mut [u64],
+    computed: &mut [u64],
 ) -> u16
-    ensures { λ r. ⌜ left r (now (step .exit)) ≡ checkLeft (trackOf kind algorithm digits period next offset) clock size (now (key .entry)) (now (challenge .entry)) (now (presented .entry)) (now (following .entry)) (now (step .entry)) ⌝ }
+    ensures { λ r. ⌜ checked r (now (step .exit)) (now (computed .exit)) ≡ checkLeft (trackOf kind algorithm digits period next offset) clock size (now (key .entry)) (now (challenge .entry)) (now (presented .entry)) (now (following .entry)) (now (step .entry)) (now (computed .entry)) ⌝ }
 {
     let track = Track {
         scheme: Scheme {
@@ -120,12 +121,14 @@ pub extern "C" fn dl_check(
         offset: Offset(offset),
     };
     let ok = numbers_ok(track, Seconds(clock), size, key, challenge);
-    if !(ok & (0 < step.len())) {
+    if !(ok & ((0 < step.len()) & (0 < computed.len()))) {
         return BAD_ARGUMENT;
     }
     let Presented::Is(asked) = presented_of(size_of(size), challenge, presented, following) else {
         return BAD_ARGUMENT;
     };
-    let outcome = check(track, Seconds(clock), key, challenge, asked);
+    let swept = check(track, Seconds(clock), key, challenge, asked);
+    let outcome = swept.outcome;
+    computed[0] = swept.computed;
     put_outcome(outcome, step)
 }

@@ -2,12 +2,12 @@
 use Prim.Native.Nat.{ℕ, zero, suc, _+_, _-_, _*_, _/_, _%_, _^_, _≤_, _<_, max}
 use mathlib.Core.Bool.{cond}
 use mathlib.Core.Path.{_≡_, refl, sym, ap, _∙_}
-use mathlib.Core.List.{List, _++_, append-assoc}
+use mathlib.Core.List.{List, _++_, append-assoc, append-nil}
 use native.Mathlib.Nat.{mod-add-mod, not-suc-le-zero, zero-add}
 use native.Mathlib.Omega.{arith}
 use borrow.Author.Tests.{ltb-true, ltb-false}
 use lib.Dec.{ltb}
-use lib.ListN.{length, take, drop, replicate, length-append, length-drop, length-replicate, replicate-append-replicate}
+use lib.ListN.{length, take, drop, replicate, length-append, length-drop, length-replicate, drop-of-length-le, replicate-append-replicate}
 use lib.Seq.{length-take-le, drop-append-le, take-append-le}
 use Rattle.words.specs.ListsLaws.{drop-zeros}
 use Rattle.words.specs.BoolLaws.{by-test}
@@ -89,9 +89,20 @@ unfolding chain
 length-chain keys s zero = length-encrypted keys (blockAt s 0)
 length-chain keys s (suc i) = length-encrypted keys (blockSum (chain keys s i) (blockAt s (suc i)))
 
-pub prepared-keys : (key : List ℕ) {k : Keys} → 16 ≤ length key → k ≡ keysAnswer (take 16 key) → k .words ≡ prepared key
-unfolding keysAnswer
-prepared-keys key h e = rw (e, length-take-le 16 key h)
+pub length-prepared : (key : List ℕ) → length (prepared key) ≡ 32
+length-prepared key = length-roundKeys (take 16 key)
+
+-- the round keys by themselves
+module _ (key : List ℕ) {k : Keys} (h : 16 ≤ length key) (e : k ≡ keysAnswer (take 16 key)) where
+  prepared-keys : k .words ≡ prepared key
+  unfolding keysAnswer
+  prepared-keys = rw (e, length-take-le 16 key h)
+
+  pub keys-length : length (k .words) ≡ 32
+  keys-length = rw prepared-keys (length-prepared key)
+
+  pub keys-put : (ready : List ℕ) {after : List ℕ} → length ready ≡ 32 → after ≡ k .words ++ drop (length (k .words)) ready → after ≡ prepared key
+  keys-put ready l p = let none : length ready ≤ 32 = omega arith in p ∙ rw (keys-length, drop-of-length-le ready, append-nil, prepared-keys)
 
 -- a part of a slice is a block
 pub block-part : (s : List ℕ) (i : ℕ) → take (16 * i + 16 - 16 * i) (drop (16 * i) s) ≡ blockAt s i
@@ -157,9 +168,6 @@ chained-of key id {keys} {buffer} {blocks} h k b n =
     let last : length s / 16 - 1 ≡ blocks - 1 = omega arith in
     let room : 16 * (blocks - 1 + 1) ≤ length s = omega arith in
     rw last (rw (laid, k) (chain-append (roundKeys (take 16 key)) s (replicate (48 - 16 * blocks) 0) (blocks - 1) room ∙ chain-outputs key s (blocks - 1)))
-
-pub length-prepared : (key : List ℕ) → length (prepared key) ≡ 32
-length-prepared key = length-roundKeys (take 16 key)
 
 pub block-length : (s : List ℕ) (i : ℕ) → 16 * i + 16 ≤ length s → length (blockAt s i) ≡ 16
 unfolding blockAt

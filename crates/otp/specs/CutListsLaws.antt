@@ -1,131 +1,122 @@
--- Lists of cuts by either algorithm: how long they are, and that they are the password's cuts.
-use Prim.Native.Nat.{ℕ, _+_, _^_, _≤_, _<_}
-use mathlib.Core.Path.{_≡_, sym, ap, _∙_}
-use mathlib.Core.Bool.{Bool, true, false}
-use mathlib.Core.List.{List, [], _∷_, _++_}
+-- Cuts of consecutive steps: they are the password's, and pieces of them are put one behind the other.
+use Prim.Native.Nat.{ℕ, _+_, _-_, _^_, _≤_, _<_, zero-le}
+use mathlib.Core.Path.{_≡_, refl, sym, _∙_}
+use mathlib.Core.Bool.{Bool, true, _&&_}
+use mathlib.Core.List.{List, [], _∷_, _++_, append-assoc, append-nil}
 use native.Mathlib.Nat.{not-suc-le-zero}
 use native.Mathlib.Omega.{arith}
-use borrow.Author.Tests.{eq-eqb, ne-eqb, eqb-true, eqb-false, le-leb, lt-leb}
+use borrow.Author.Tests.{eqb-true, leb-true}
 use lib.Dec.{eqb, leb}
-use lib.ListN.{length, set, take}
-use lib.Seq.{take-at}
-use Rattle.words.specs.BoolLaws.{by-test}
+use lib.ListN.{length, set, take, drop, length-append, length-drop, drop-of-length-le}
+use lib.Seq.{take-at, take-all, drop-at, drop-drop, drop-length}
+use Rattle.words.specs.BoolLaws.{and-left, and-right}
 use Rattle.sm3.specs.Sm3.{sm3Of}
 use Rattle.otp.specs.declared.Factor.{Factor}
 use Rattle.otp.specs.Password.{algorithmSm3, idOf, filled, chained, cut}
 use Rattle.otp.specs.PasswordLaws.{keyed-hashed, keyed-chained}
 use Rattle.otp.specs.Chain.{prepared}
 use Rattle.otp.specs.StepCuts.{timeAt, countAt, stepId, hashedCut, cutBy, cutsFrom}
-use Rattle.otp.specs.StepCutsLaws.{step-cut, length-cutsFrom, same-cuts}
-use Rattle.otp.specs.CutLists.{stepCut, hashedWidth, keyedWidth, width, firstWidth}
-
--- ---- widths
-
-module _ (left : ℕ) where
-  pub hashed-one : left ≡ 1 → hashedWidth left ≡ 1
-  unfolding hashedWidth
-  hashed-one e = rw (eq-eqb left 1 e)
-
-  pub hashed-four : (left ≡ 1 → ⊥) → hashedWidth left ≡ 4
-  unfolding hashedWidth
-  hashed-four n = rw (ne-eqb left 1 n)
-
-  pub keyed-three : left ≤ 3 → keyedWidth left ≡ 3
-  unfolding keyedWidth
-  keyed-three l = rw (le-leb left 3 l)
-
-  pub keyed-five : 3 < left → keyedWidth left ≡ 5
-  unfolding keyedWidth
-  keyed-five l = rw (lt-leb left 3 l)
-
-  pub keyed-most : (3 ≤ keyedWidth left) × (keyedWidth left ≤ 5)
-  unfolding keyedWidth
-  keyed-most = by-test (leb left 3) (λ t. rw t (omega arith, omega arith)) (λ t. rw t (omega arith, omega arith))
-
-  hashed-fits : {ahead : ℕ} → ahead ≤ 1 → ahead < left → (ahead < hashedWidth left) × (hashedWidth left ≤ 5)
-  hashed-fits l h =
-      by-test (eqb left 1)
-      (λ t. let e = eqb-true left 1 t in let w = hashed-one e in (omega arith, omega arith))
-      (λ t. let w = hashed-four (eqb-false left 1 t) in (omega arith, omega arith))
-
-module _ (algorithm left : ℕ) where
-  pub width-hashed : algorithm ≡ algorithmSm3 → width algorithm left ≡ hashedWidth left
-  unfolding width
-  width-hashed a = rw (eq-eqb algorithm algorithmSm3 a)
-
-  pub width-keyed : (algorithm ≡ algorithmSm3 → ⊥) → width algorithm left ≡ keyedWidth left
-  unfolding width
-  width-keyed a = rw (ne-eqb algorithm algorithmSm3 a)
-
-  -- a list has the step before, where there is one, and at least a step more; a buffer of five holds it
-  pub width-fits : {n ahead : ℕ} → n ≡ width algorithm left → ahead ≤ 1 → ahead < left → (ahead < n) × (n ≤ 5)
-  width-fits e l h =
-      by-test (eqb algorithm algorithmSm3)
-      (λ t. let w = e ∙ width-hashed (eqb-true algorithm algorithmSm3 t) in rw w (hashed-fits left l h))
-      (λ t. let w = e ∙ width-keyed (eqb-false algorithm algorithmSm3 t) in let m = keyed-most left in (omega arith, omega arith))
-
-  module _ (alone : Bool) where
-    pub first-one : alone ≡ true → firstWidth algorithm alone left ≡ 1
-    unfolding firstWidth
-    first-one t = rw t
-
-    pub first-hashed : alone ≡ false → algorithm ≡ algorithmSm3 → firstWidth algorithm alone left ≡ hashedWidth left
-    unfolding firstWidth
-    first-hashed t a = rw (t, eq-eqb algorithm algorithmSm3 a)
-
-    pub first-three : alone ≡ false → (algorithm ≡ algorithmSm3 → ⊥) → firstWidth algorithm alone left ≡ 3
-    unfolding firstWidth
-    first-three t a = rw (t, ne-eqb algorithm algorithmSm3 a)
-
-    -- the same under a fresh key, if a step that goes alone has none before it
-    pub first-fits : {n ahead : ℕ} → n ≡ firstWidth algorithm alone left → ahead ≤ 1 → ahead < left → (alone ≡ true → ahead ≡ 0) → (ahead < n) × (n ≤ 5)
-    first-fits e l h z =
-        by-test alone
-        (λ t. let w = e ∙ first-one t in let y = z t in (omega arith, omega arith))
-        (λ t. by-test (eqb algorithm algorithmSm3)
-        (λ u. let w = e ∙ first-hashed t (eqb-true algorithm algorithmSm3 u) in rw w (hashed-fits left l h))
-        (λ u. let w = e ∙ first-three t (eqb-false algorithm algorithmSm3 u) in (omega arith, omega arith)))
+use Rattle.otp.specs.StepCutsLaws.{step-cut, length-cutsFrom, cutsFrom-append, same-cuts}
+use Rattle.otp.specs.CutLists.{stepCut, Put}
 
 -- ---- the cuts are the password's
 
-module _ (algorithm : ℕ) (key : List ℕ) (timed : Bool) where
-  pub hashed-cut-is : (s : ℕ) → algorithm ≡ algorithmSm3 → hashedCut key timed s ≡ stepCut algorithm key [] timed s
-  unfolding stepCut stepId
-  hashed-cut-is s a = keyed-hashed algorithm key (filled (stepId timed s)) a
+module _ (algorithm : ℕ) (key challenge : List ℕ) (timed : Bool) (s : ℕ) where
+  -- with a challenge or without
+  module _ {time count : Factor} {r : ℕ} (et : time ≡ timeAt timed s) (ec : count ≡ countAt timed s) where
+    pub cut-hashed : algorithm ≡ algorithmSm3 → r ≡ cut (sm3Of (key ++ filled (idOf time count challenge))) → r ≡ stepCut algorithm key challenge timed s
+    unfolding stepCut
+    cut-hashed a e = e ∙ rw (et, ec) (keyed-hashed algorithm key (filled (idOf (timeAt timed s) (countAt timed s) challenge)) a)
 
-  pub keyed-cut-is : (s : ℕ) {keys : List ℕ} → (algorithm ≡ algorithmSm3 → ⊥) → keys ≡ prepared key → s < 2 ^ 64 → cutBy keys timed s ≡ stepCut algorithm key [] timed s
-  unfolding stepCut stepId
-  keyed-cut-is s a e h = rw e (sym (step-cut key timed s h) ∙ keyed-chained algorithm key (filled (stepId timed s)) a)
+    pub cut-chained : (algorithm ≡ algorithmSm3 → ⊥) → r ≡ cut (chained key (filled (idOf time count challenge))) → r ≡ stepCut algorithm key challenge timed s
+    unfolding stepCut
+    cut-chained a e = e ∙ rw (et, ec) (keyed-chained algorithm key (filled (idOf (timeAt timed s) (countAt timed s) challenge)) a)
 
-  pub hashed-list : (n s : ℕ) → algorithm ≡ algorithmSm3 → cutsFrom (hashedCut key timed) n s ≡ cutsFrom (stepCut algorithm key [] timed) n s
-  hashed-list n s a = same-cuts (hashedCut key timed) (stepCut algorithm key [] timed) n s (s + n) (omega arith) (λ x l. hashed-cut-is x a)
+  -- without a challenge
+  module _ (none : length challenge ≤ 0) where
+    hashed-cut-is : algorithm ≡ algorithmSm3 → hashedCut key timed s ≡ stepCut algorithm key challenge timed s
+    unfolding stepCut stepId
+    hashed-cut-is a = rw (drop-of-length-le challenge none) (keyed-hashed algorithm key (filled (stepId timed s)) a)
 
-  pub keyed-list : (n s : ℕ) {keys : List ℕ} → (algorithm ≡ algorithmSm3 → ⊥) → keys ≡ prepared key → s + n ≤ 2 ^ 64
-      → cutsFrom (cutBy keys timed) n s ≡ cutsFrom (stepCut algorithm key [] timed) n s
-  keyed-list n s {keys} a e h = same-cuts (cutBy keys timed) (stepCut algorithm key [] timed) n s (2 ^ 64) h (λ x l. keyed-cut-is x a e l)
+    pub keyed-cut-is : {keys : List ℕ} → (algorithm ≡ algorithmSm3 → ⊥) → keys ≡ prepared key → s < 2 ^ 64 → cutBy keys timed s ≡ stepCut algorithm key challenge timed s
+    unfolding stepCut stepId
+    keyed-cut-is a e h = rw (drop-of-length-le challenge none, e) (sym (step-cut key timed s h) ∙ keyed-chained algorithm key (filled (stepId timed s)) a)
 
--- the two ways of a cut with a challenge
-module _ (algorithm : ℕ) (key challenge : List ℕ) (timed : Bool) (s : ℕ) {time count : Factor} {r : ℕ} (et : time ≡ timeAt timed s) (ec : count ≡ countAt timed s) where
-  pub cut-hashed : algorithm ≡ algorithmSm3 → r ≡ cut (sm3Of (key ++ filled (idOf time count challenge))) → r ≡ stepCut algorithm key challenge timed s
-  unfolding stepCut
-  cut-hashed a e = e ∙ rw (et, ec) (keyed-hashed algorithm key (filled (idOf (timeAt timed s) (countAt timed s) challenge)) a)
+-- ---- pieces
 
-  pub cut-chained : (algorithm ≡ algorithmSm3 → ⊥) → r ≡ cut (chained key (filled (idOf time count challenge))) → r ≡ stepCut algorithm key challenge timed s
-  unfolding stepCut
-  cut-chained a e = e ∙ rw (et, ec) (keyed-chained algorithm key (filled (idOf (timeAt timed s) (countAt timed s) challenge)) a)
+-- the places from n on, as a call is lent them
+abbrev leftOf : ℕ → List ℕ → List ℕ
+leftOf n out = take (length out - n) (drop n out)
 
--- ---- lists put at the front of a buffer
+left-is : (n : ℕ) (out : List ℕ) → leftOf n out ≡ drop n out
+left-is n out = take-all (length out - n) (drop n out) (rw length-drop (omega arith))
+
+pub length-left : (n : ℕ) (out : List ℕ) → length (leftOf n out) ≡ length out - n
+length-left n out = rw (left-is n out) (length-drop n out)
 
 module _ (cutAt : ℕ → ℕ) (s : ℕ) where
-  pub one-put : {x : ℕ} (cuts : List ℕ) → 0 < length cuts → x ≡ cutAt s → take 1 (set cuts 0 x) ≡ cutsFrom cutAt 1 s
+  pub put-none : (out : List ℕ) → Put cutAt 0 s out out
   unfolding cutsFrom
-  one-put [] h e = absurd (not-suc-le-zero h)
-  one-put (c ∷ cuts) h e = rw e
+  put-none out = record { fits = zero-le; are = refl }
 
-  pub list-put : (n : ℕ) (rest : List ℕ) {made cuts : List ℕ} → made ≡ cutsFrom cutAt n s → cuts ≡ made ++ rest → take n cuts ≡ cutsFrom cutAt n s
-  list-put n rest {made} e p = rw (p, take-at made rest n (ap length e ∙ length-cutsFrom cutAt n s)) e
+  pub put-one : (out : List ℕ) {x : ℕ} → 0 < length out → x ≡ cutAt s → Put cutAt 1 s out (set out 0 x)
+  unfolding cutsFrom
+  put-one [] h e = absurd (not-suc-le-zero h)
+  put-one (c ∷ out) h e = record { fits = h; are = rw e }
 
--- a list that was put is as long as the width says, and has the cuts of another rule that makes the same
-pub listed : (s : ℕ) (cutAt other : ℕ → ℕ) (cuts : List ℕ) {n w r : ℕ} → w ≡ n → r ≡ n → cutsFrom cutAt n s ≡ cutsFrom other n s → take n cuts ≡ cutsFrom cutAt n s
-    → (r ≡ w) × (take w cuts ≡ cutsFrom other w s)
-listed s cutAt other cuts ew er e t = (er ∙ sym ew, rw ew (t ∙ e))
+  put-list : (n : ℕ) (out : List ℕ) {made after : List ℕ} → n ≤ length out → made ≡ cutsFrom cutAt n s → after ≡ made ++ drop (length made) out → Put cutAt n s out after
+  put-list n out h e p = record { fits = h; are = p ∙ rw (e, length-cutsFrom cutAt n s) }
+
+  pub put-length : {n : ℕ} {out after : List ℕ} → Put cutAt n s out after → length after ≡ length out
+  put-length {n} p = rw (p .are, length-append, length-cutsFrom cutAt n s, length-drop) (let h = p .fits in omega arith)
+
+  pub put-all : {n : ℕ} {out after : List ℕ} → length out ≤ n → Put cutAt n s out after → after ≡ cutsFrom cutAt (length out) s
+  put-all {n} {out} l p =
+      let h = p .fits in
+      let e : n ≡ length out = omega arith in
+      p .are ∙ rw (drop-of-length-le out l, append-nil, e)
+
+  -- a piece behind n that are put, in what is left
+  module _ {n : ℕ} {out now : List ℕ} (p : Put cutAt n s out now) where
+    pub put-room : {bound : ℕ} → s + length out < bound → s + n + length (leftOf n now) < bound
+    put-room h = let fits = p .fits in rw (length-left n now, put-length p) (omega arith)
+
+    pub put-more : {m : ℕ} {part : List ℕ} → Put cutAt m (s + n) (leftOf n now) part → Put cutAt (n + m) s out (take n now ++ (part ++ drop (length now - n) (drop n now)))
+    put-more {m} {part} q =
+        let made = cutsFrom cutAt n s in
+        let rest : drop n now ≡ drop n out = rw (p .are) (drop-at made (drop n out) n (length-cutsFrom cutAt n s)) in
+        let left : leftOf n now ≡ drop n out = left-is n now ∙ rest in
+        let none : drop (length now - n) (drop n now) ≡ [] = drop-of-length-le (drop n now) {i = length now - n} (rw length-drop (omega arith)) in
+        let room : m ≤ length out - n = rw (left, length-drop) at (q .fits) in
+        let behind : part ≡ cutsFrom cutAt m (s + n) ++ drop (n + m) out = q .are ∙ rw (left, drop-drop) in
+        record {
+          fits = let h = p .fits in omega arith;
+          are = rw (none, append-nil, behind, cutsFrom-append cutAt n m s, p .are, take-at made (drop n out) n (length-cutsFrom cutAt n s)) (simp append-assoc);
+        }
+
+    pub put-rest : {part : List ℕ} → part ≡ cutsFrom cutAt (length (leftOf n now)) (s + n) → take n now ++ (part ++ drop (length now - n) (drop n now)) ≡ cutsFrom cutAt (length out) s
+    put-rest {part} e =
+        let l = length-left n now in
+        let k = put-length p in
+        let q : Put cutAt (length (leftOf n now)) (s + n) (leftOf n now) part = record { fits = omega arith; are = e ∙ rw (drop-length (leftOf n now), append-nil) } in
+        put-all (omega arith) (put-more q)
+
+-- a piece made without a challenge
+module _ (algorithm : ℕ) (key challenge : List ℕ) (timed : Bool) (n s : ℕ) (out : List ℕ) {made after : List ℕ}
+    (none : length challenge ≤ 0) (fits : n ≤ length out) (copied : after ≡ made ++ drop (length made) out) where
+  pub hashed-put : algorithm ≡ algorithmSm3 → made ≡ cutsFrom (hashedCut key timed) n s → Put (stepCut algorithm key challenge timed) n s out after
+  hashed-put a e =
+      let cutAt = stepCut algorithm key challenge timed in
+      put-list cutAt s n out fits (e ∙ same-cuts (hashedCut key timed) cutAt n s (s + n) (omega arith) (λ x l. hashed-cut-is algorithm key challenge timed x none a)) copied
+
+  pub keyed-put : {keys : List ℕ} → (algorithm ≡ algorithmSm3 → ⊥) → keys ≡ prepared key → s + n ≤ 2 ^ 64 → made ≡ cutsFrom (cutBy keys timed) n s
+      → Put (stepCut algorithm key challenge timed) n s out after
+  keyed-put {keys} a k h e =
+      let cutAt = stepCut algorithm key challenge timed in
+      put-list cutAt s n out fits (e ∙ same-cuts (cutBy keys timed) cutAt n s (2 ^ 64) h (λ x l. keyed-cut-is algorithm key challenge timed x none a k l)) copied
+
+-- where four are made
+pub four-left : (challenge out : List ℕ) → eqb (length challenge) 0 && leb 4 (length out) ≡ true → (length challenge ≤ 0) × (4 ≤ length out)
+four-left challenge out t =
+    let none = eqb-true (length challenge) 0 (and-left (eqb (length challenge) 0) _ t) in
+    (omega arith, leb-true 4 (length out) (and-right (eqb (length challenge) 0) _ t))

@@ -3,15 +3,16 @@ use Prim.Native.Nat.{ℕ, zero, suc, _+_, _-_, _*_, _/_, _%_, _^_, _≤_, _<_}
 use mathlib.Core.Bool.{Bool, true, false}
 use mathlib.Core.Path.{_≡_, refl, sym, ap, ap₂, _∙_}
 use mathlib.Core.List.{List, [], _∷_, _++_, append-assoc, append-nil}
-use native.Mathlib.Nat.{add-zero, not-suc-le-zero, le-of-suc-le-suc}
+use native.Mathlib.Nat.{zero-add, add-zero, suc-add, not-suc-le-zero, le-of-suc-le-suc}
 use native.Mathlib.Omega.{arith}
 use lib.ListN.{length, getD, take, replicate, length-append}
 use lib.Seq.{take-all}
-use Rattle.words.specs.Bytes.{beAt, beBytes}
+use Rattle.words.specs.Bytes.{beBytes}
 use Rattle.words.specs.BytesLaws.{beBytes-split, beBytes-mod, length-beBytes}
-use Rattle.sm4.specs.Sm4.{linear, steps, wordsOf, reversed, encryptWith, roundKeys, sm4Of}
+use Rattle.sm4.specs.Sm4.{linear, steps, wordsOf, reversed, encryptWith, roundKeys, sm4Of, encryptWordsAnswer}
 use Rattle.sm4.specs.Sm4Laws.{QuadBelow, steps-below, linear-lt}
 use Rattle.sm4.specs.EncryptLaws.{output-words}
+use Rattle.sm4.specs.declared.chaining.CipherWords.{CipherWords}
 use Rattle.sm4.specs.declared.round.Quad.{Quad}
 use Rattle.otp.specs.declared.Factor.the-variants.{Absent, Present}
 use Rattle.otp.specs.Password.{factorBytes, idOf, filled, toBlocks, blockAt, outputOf, chained, wordSum, cut}
@@ -38,6 +39,13 @@ pub same-cuts : (cutAt other : ℕ → ℕ) (n s bound : ℕ) → s + n ≤ boun
 unfolding cutsFrom
 same-cuts cutAt other zero s bound l h = refl
 same-cuts cutAt other (suc n) s bound l h = ap₂ (λ (x : ℕ) (xs : List ℕ). x ∷ xs) (h s (omega arith)) (same-cuts cutAt other n (s + 1) bound (omega arith) h)
+
+pub cutsFrom-append : (cutAt : ℕ → ℕ) (n m s : ℕ) → cutsFrom cutAt (n + m) s ≡ cutsFrom cutAt n s ++ cutsFrom cutAt m (s + n)
+unfolding cutsFrom
+cutsFrom-append cutAt zero m s = rw (zero-add, add-zero)
+cutsFrom-append cutAt (suc n) m s =
+    let e : s + 1 + n ≡ s + suc n = omega arith in
+    rw (suc-add, cutsFrom-append cutAt n m (s + 1), e)
 
 pub three-cuts : (cutAt : ℕ → ℕ) (s : ℕ) {a b c : ℕ} → a ≡ cutAt s → b ≡ cutAt (s + 1) → c ≡ cutAt (s + 2) → a ∷ b ∷ c ∷ [] ≡ cutsFrom cutAt 3 s
 unfolding cutsFrom
@@ -118,25 +126,33 @@ reversed-length : (q : Quad) → length (reversed q) ≡ 16
 unfolding reversed
 reversed-length q = simp (length-append, length-beBytes)
 
--- the words of what R gives have the state's sum
-reversed-cut : (q : Quad) → QuadBelow q → cut (reversed q) ≡ wordsCut q
+-- the cut of sixteen bytes, from their words
+words-cut : (s : List ℕ) → length s ≡ 16 → wordsCut (wordsOf s) ≡ cut s
 unfolding cut wordSum wordsOf
-reversed-cut q h =
-    let w = output-words q (h .a-lt) (h .b-lt) (h .c-lt) (h .d-lt) in
-    let l : length (reversed q) ≡ 16 = reversed-length q in
-    let a : beAt 4 (reversed q) 0 ≡ q .d = sym (ap (λ (x : Quad). x .a) w) in
-    let b : beAt 4 (reversed q) 4 ≡ q .c = sym (ap (λ (x : Quad). x .b) w) in
-    let c : beAt 4 (reversed q) 8 ≡ q .b = sym (ap (λ (x : Quad). x .c) w) in
-    let d : beAt 4 (reversed q) 12 ≡ q .a = sym (ap (λ (x : Quad). x .d) w) in
-    rw (l, a, b, c, d) (ap (λ (n : ℕ). n % 2 ^ 32) (let e : 0 + q .d + q .c + q .b + q .a ≡ q .a + q .b + q .c + q .d = omega arith in e))
+words-cut s l = rw (l, zero-add)
+
+-- the words of what R gives have the state's sum
+reversed-words-cut : (q : Quad) → QuadBelow q → wordsCut (wordsOf (reversed q)) ≡ wordsCut q
+reversed-words-cut q h = rw (← output-words q (h .a-lt) (h .b-lt) (h .c-lt) (h .d-lt)) (omega arith)
+
+reversed-cut : (q : Quad) → QuadBelow q → cut (reversed q) ≡ wordsCut q
+reversed-cut q h = sym (words-cut (reversed q) (reversed-length q)) ∙ reversed-words-cut q h
+
+step-below : (keys : List ℕ) (timed : Bool) (s : ℕ) → s < 2 ^ 64 → QuadBelow (steps linear keys 32 (stepBlock timed s))
+step-below keys timed s h = steps-below linear linear-lt keys 32 (stepBlock timed s) (block-below timed s h)
+
+-- one block under round keys
+pub block-cut : (keys : List ℕ) (timed : Bool) (s : ℕ) {x : Quad} {c : CipherWords} {r : ℕ} → length keys ≡ 32 → s < 2 ^ 64
+    → x ≡ stepBlock timed s → c ≡ encryptWordsAnswer keys x → r ≡ wordsCut (c .output) → r ≡ cutBy keys timed s
+unfolding cutBy encryptWordsAnswer
+block-cut keys timed s k h ex ec er = er ∙ rw (ec, k, ex) (reversed-words-cut (steps linear keys 32 (stepBlock timed s)) (step-below keys timed s h))
 
 -- the law: a step's cut is that of the definition
 pub step-cut : (key : List ℕ) (timed : Bool) (s : ℕ) → s < 2 ^ 64 → cut (chained key (filled (stepId timed s))) ≡ cutBy (prepared key) timed s
 unfolding cutBy sm4Of encryptWith
 step-cut key timed s h =
     let keys = roundKeys (take 16 key) in
-    let below = steps-below linear linear-lt keys 32 (stepBlock timed s) (block-below timed s h) in
-    rw (one-block key (filled (stepId timed s)) (id-length timed s), block-words timed s h) (reversed-cut (steps linear keys 32 (stepBlock timed s)) below)
+    rw (one-block key (filled (stepId timed s)) (id-length timed s), block-words timed s h) (reversed-cut (steps linear keys 32 (stepBlock timed s)) (step-below keys timed s h))
 
 -- ---- the two kinds of blocks
 

@@ -1,6 +1,7 @@
-// The cuts of consecutive steps by SM4 without a challenge, side by side or one alone, for the proved layers above: ID is then one block.
+// The cuts of consecutive steps by SM4 without a challenge, side by side or one alone: ID is then one block.
 use crate::cut::cut_words;
 use sm4::Quad;
+use sm4::encrypt_words;
 use sm4::sides::sides_from;
 use sm4_lanes::Five;
 use sm4_lanes::Three;
@@ -81,6 +82,14 @@ pub(crate) fn first_cuts(key: &[u8], timed: bool, s: u64, keys: &mut [u32]) -> [
 {
     let blocks = three_from(timed, s);
     three_cuts(first_three(&key[0..16], blocks, keys))
+}
+
+// That of step s, under round keys.
+pub(crate) fn next_cut(keys: &[u32], timed: bool, s: u64) -> u32
+    requires { ⌜ length (now keys) ≡ 32 ⌝ }
+    ensures { λ r. ⌜ r ≡ cutBy (now (keys .entry)) timed s ⌝ }
+{
+    cut_words(encrypt_words(keys, block_of(timed, s)).output)
 }
 
 // Those of three steps from s on, under round keys.

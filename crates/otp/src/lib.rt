@@ -7,7 +7,7 @@ mod id;
 pub mod lists;
 pub mod number;
 mod once;
-pub mod prepared;
+mod prepared;
 mod steps;
 pub mod typed;
 
@@ -50,7 +50,7 @@ pub fn password(
     if out.len() < digits {
         return BAD_ARGUMENT;
     }
-    let sum = truncated_once(algorithm, key, time, count, challenge, digits);
+    let sum = truncated_once(algorithm, key, time, count, challenge);
     put_decimals(sum, digits, out);
     DONE
 }

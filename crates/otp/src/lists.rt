@@ -1,120 +1,184 @@
-// The cuts of consecutive steps without a challenge, by either algorithm: how many are made at once is decided here.
+// The cuts of consecutive steps under one key: how many are made side by side is decided here, and none is made beyond those asked for.
 use crate::SM3;
 use crate::cuts::few_cuts;
 use crate::cuts::first_cut;
 use crate::cuts::first_cuts;
+use crate::cuts::next_cut;
 use crate::cuts::next_cuts;
-use crate::steps::hashed_cut;
+use crate::prepared::ciphered;
+use crate::prepared::count_at;
+use crate::prepared::hashed;
+use crate::prepared::time_at;
 use crate::steps::hashed_cuts;
+use sm4::round_keys;
 use words::word::copy_words;
 ghost use mathlib.Core.Path.{_≡_};
-ghost use mathlib.Core.List.{[]};
-ghost use Prim.Native.Nat.{_^_, _≤_, _<_};
-ghost use lib.ListN.{length, take};
-ghost use Rattle.otp.specs.StepCuts.{hashedCut, cutBy, cutsFrom};
-ghost use Rattle.otp.specs.CutLists.{stepCut, hashedWidth, keyedWidth, width, firstWidth, Keyed};
+ghost use Prim.Native.Nat.{_+_, _^_, _≤_, _<_};
+ghost use lib.ListN.{length};
+ghost use Rattle.otp.specs.Password.{algorithmSm3};
+ghost use Rattle.otp.specs.Chain.{prepared};
+ghost use Rattle.otp.specs.StepCuts.{cutsFrom};
+ghost use Rattle.otp.specs.CutLists.{stepCut, Ready, Put};
 
-// A buffer of cuts has room for the most that are made at once.
-pub const MOST_CUTS: usize = 5;
+// How a token's steps are cut: by which algorithm, and whether a step is a time T or a count C.
+pub struct Maker {
+    pub algorithm: u8,
+    pub timed: bool,
+}
 
-// Those of the steps from s on by SM3. One step that is left alone costs less than four side by side.
-fn put_hashed(key: &[u8], timed: bool, s: u64, left: u64, cuts: &mut [u32]) -> usize
+// The words that a key is made ready to: SM4's round keys; SM3 needs none.
+pub const READY: usize = 32;
+
+// By SM3: four side by side, or one; with a challenge one.
+fn put_hashed(maker: Maker, key: &[u8], challenge: &[u8], s: u64, out: &mut [u32]) -> usize
+    requires { ⌜ maker .algorithm ≡ algorithmSm3 ⌝ }
     requires { ⌜ length (now key) ≤ 32 ⌝ }
+    requires { ⌜ length (now challenge) ≤ 32 ⌝ }
     requires { ⌜ s < 2 ^ 63 ⌝ }
-    requires { ⌜ length (now cuts) ≡ 5 ⌝ }
-    ensures { λ r. ⌜ r ≡ hashedWidth left ⌝ }
-    ensures { λ _. ⌜ take (hashedWidth left) (now (cuts .exit)) ≡ cutsFrom (hashedCut (now (key .entry)) timed) (hashedWidth left) s ⌝ }
+    requires { ⌜ 0 < length (now out) ⌝ }
+    ensures { λ r. ⌜ 0 < r ⌝ }
+    ensures { λ r. ⌜ Put (stepCut (maker .algorithm) (now (key .entry)) (now (challenge .entry)) (maker .timed)) r s (now (out .entry)) (now (out .exit)) ⌝ }
 {
-    if left == 1 {
-        cuts[0] = hashed_cut(key, timed, s);
-        return 1;
+    let timed = maker.timed;
+    if (challenge.len() == 0) & (4 <= out.len()) {
+        copy_words(&hashed_cuts(key, timed, s), out);
+        return 4;
     }
-    copy_words(&hashed_cuts(key, timed, s), cuts);
-    4
+    out[0] = hashed(key, time_at(timed, s), count_at(timed, s), challenge);
+    1
 }
 
-// By SM4, under round keys. Where at most three steps are left, three cost less than five.
-fn put_keyed(keys: &[u32], timed: bool, s: u64, left: u64, cuts: &mut [u32]) -> usize
-    requires { ⌜ length (now keys) ≡ 32 ⌝ }
-    requires { ⌜ s < 2 ^ 63 ⌝ }
-    requires { ⌜ length (now cuts) ≡ 5 ⌝ }
-    ensures { λ r. ⌜ r ≡ keyedWidth left ⌝ }
-    ensures { λ _. ⌜ take (keyedWidth left) (now (cuts .exit)) ≡ cutsFrom (cutBy (now (keys .entry)) timed) (keyedWidth left) s ⌝ }
-{
-    if left <= 3 {
-        copy_words(&few_cuts(keys, timed, s), cuts);
-        return 3;
-    }
-    copy_words(&next_cuts(keys, timed, s), cuts);
-    5
-}
-
-// Puts the cuts of steps s, s + 1, .. at the front of cuts, and answers how many. `left` steps are left to search, and a few more may be cut:
-// by SM4, where four are left from step 100 on, those of 100 to 104.
-pub fn put_cuts(
-    algorithm: u8,
+// By SM4: five side by side, three, or one; with a challenge one.
+fn put_keyed(
+    maker: Maker,
     key: &[u8],
     keys: &[u32],
-    timed: bool,
+    challenge: &[u8],
     s: u64,
-    left: u64,
-    cuts: &mut [u32],
+    out: &mut [u32],
 ) -> usize
-    requires { ⌜ length (now key) ≤ 32 ⌝ }
-    requires { ⌜ Keyed algorithm (now key) (now keys) ⌝ }
-    requires { ⌜ s < 2 ^ 63 ⌝ }
-    requires { ⌜ length (now cuts) ≡ 5 ⌝ }
-    ensures { λ r. ⌜ r ≡ width algorithm left ⌝ }
-    ensures { λ _. ⌜ take (width algorithm left) (now (cuts .exit)) ≡ cutsFrom (stepCut algorithm (now (key .entry)) [] timed) (width algorithm left) s ⌝ }
-{
-    if algorithm == SM3 {
-        return put_hashed(key, timed, s, left, cuts);
-    }
-    put_keyed(keys, timed, s, left, cuts)
-}
-
-// The cut of step s alone, under a fresh key. SM4's round keys are left in keys.
-fn alone_cut(algorithm: u8, key: &[u8], timed: bool, s: u64, keys: &mut [u32]) -> u32
-    requires { ⌜ 16 ≤ length (now key) ⌝ }
-    requires { ⌜ length (now key) ≤ 32 ⌝ }
+    requires { ⌜ (maker .algorithm ≡ algorithmSm3 → ⊥) ⌝ }
+    requires { ⌜ now keys ≡ prepared (now key) ⌝ }
     requires { ⌜ length (now keys) ≡ 32 ⌝ }
-    ensures { λ r. ⌜ r ≡ stepCut algorithm (now (key .entry)) [] timed s ⌝ }
-    ensures { λ _. ⌜ Keyed algorithm (now (key .entry)) (now (keys .exit)) ⌝ }
-{
-    if algorithm == SM3 {
-        return hashed_cut(key, timed, s);
-    }
-    first_cut(key, timed, s, keys)
-}
-
-// The same where the key is fresh: SM4's round keys are made with the first cuts, and left in keys for those that follow. A step that is to go alone,
-// as the one that most logins use, is cut alone; else, from step 100 on, SM4 cuts 100 to 102, and SM3 cuts 100 to 103.
-pub fn put_first_cuts(
-    algorithm: u8,
-    key: &[u8],
-    timed: bool,
-    s: u64,
-    left: u64,
-    alone: bool,
-    cuts: &mut [u32],
-    keys: &mut [u32],
-) -> usize
-    requires { ⌜ 16 ≤ length (now key) ⌝ }
-    requires { ⌜ length (now key) ≤ 32 ⌝ }
+    requires { ⌜ length (now challenge) ≤ 32 ⌝ }
     requires { ⌜ s < 2 ^ 63 ⌝ }
-    requires { ⌜ length (now cuts) ≡ 5 ⌝ }
-    requires { ⌜ length (now keys) ≡ 32 ⌝ }
-    ensures { λ r. ⌜ r ≡ firstWidth algorithm alone left ⌝ }
-    ensures { λ _. ⌜ take (firstWidth algorithm alone left) (now (cuts .exit)) ≡ cutsFrom (stepCut algorithm (now (key .entry)) [] timed) (firstWidth algorithm alone left) s ⌝ }
-    ensures { λ _. ⌜ Keyed algorithm (now (key .entry)) (now (keys .exit)) ⌝ }
+    requires { ⌜ 0 < length (now out) ⌝ }
+    ensures { λ r. ⌜ 0 < r ⌝ }
+    ensures { λ r. ⌜ Put (stepCut (maker .algorithm) (now (key .entry)) (now (challenge .entry)) (maker .timed)) r s (now (out .entry)) (now (out .exit)) ⌝ }
 {
-    if alone {
-        cuts[0] = alone_cut(algorithm, key, timed, s, keys);
+    let timed = maker.timed;
+    if 0 < challenge.len() {
+        out[0] = ciphered(key, keys, time_at(timed, s), count_at(timed, s), challenge);
         return 1;
     }
-    if algorithm == SM3 {
-        return put_hashed(key, timed, s, left, cuts);
+    if 5 <= out.len() {
+        copy_words(&next_cuts(keys, timed, s), out);
+        return 5;
     }
-    copy_words(&first_cuts(key, timed, s, keys), cuts);
-    3
+    if 3 <= out.len() {
+        copy_words(&few_cuts(keys, timed, s), out);
+        return 3;
+    }
+    out[0] = next_cut(keys, timed, s);
+    1
+}
+
+// Puts the cuts of some steps from s on at the front of out, and answers how many.
+fn put_some(
+    maker: Maker,
+    key: &[u8],
+    ready: &[u32],
+    challenge: &[u8],
+    s: u64,
+    out: &mut [u32],
+) -> usize
+    requires { ⌜ length (now key) ≤ 32 ⌝ }
+    requires { ⌜ Ready (maker .algorithm) (now key) (now ready) ⌝ }
+    requires { ⌜ length (now challenge) ≤ 32 ⌝ }
+    requires { ⌜ s < 2 ^ 63 ⌝ }
+    requires { ⌜ 0 < length (now out) ⌝ }
+    ensures { λ r. ⌜ 0 < r ⌝ }
+    ensures { λ r. ⌜ Put (stepCut (maker .algorithm) (now (key .entry)) (now (challenge .entry)) (maker .timed)) r s (now (out .entry)) (now (out .exit)) ⌝ }
+{
+    if maker.algorithm == SM3 {
+        return put_hashed(maker, key, challenge, s, out);
+    }
+    put_keyed(maker, key, ready, challenge, s, out)
+}
+
+// Makes a fresh key ready, and puts the cuts that are made beside it: by SM4 without a challenge three, or one. Answers how many.
+fn put_first(
+    maker: Maker,
+    key: &[u8],
+    challenge: &[u8],
+    s: u64,
+    ready: &mut [u32],
+    out: &mut [u32],
+) -> usize
+    requires { ⌜ 16 ≤ length (now key) ⌝ }
+    requires { ⌜ s < 2 ^ 63 ⌝ }
+    requires { ⌜ length (now ready) ≡ 32 ⌝ }
+    requires { ⌜ 0 < length (now out) ⌝ }
+    ensures { λ r. ⌜ Put (stepCut (maker .algorithm) (now (key .entry)) (now (challenge .entry)) (maker .timed)) r s (now (out .entry)) (now (out .exit)) ⌝ }
+    ensures { λ _. ⌜ Ready (maker .algorithm) (now (key .entry)) (now (ready .exit)) ⌝ }
+{
+    if maker.algorithm == SM3 {
+        return 0;
+    }
+    if 0 < challenge.len() {
+        let keys = round_keys(&key[0..16]).words;
+        copy_words(&keys, ready);
+        return 0;
+    }
+    if 3 <= out.len() {
+        copy_words(&first_cuts(key, maker.timed, s, ready), out);
+        return 3;
+    }
+    out[0] = first_cut(key, maker.timed, s, ready);
+    1
+}
+
+// Puts the cuts of the steps from s on, one into each place of out, under a key made ready.
+pub fn put_cuts(maker: Maker, key: &[u8], ready: &[u32], challenge: &[u8], s: u64, out: &mut [u32])
+    requires { ⌜ length (now key) ≤ 32 ⌝ }
+    requires { ⌜ Ready (maker .algorithm) (now key) (now ready) ⌝ }
+    requires { ⌜ length (now challenge) ≤ 32 ⌝ }
+    requires { ⌜ s + length (now out) < 2 ^ 63 ⌝ }
+    ensures { λ _. ⌜ now (out .exit) ≡ cutsFrom (stepCut (maker .algorithm) (now (key .entry)) (now (challenge .entry)) (maker .timed)) (length (now (out .entry))) s ⌝ }
+{
+    let mut i = 0;
+    while i < out.len() {
+        i += put_some(maker, key, ready, challenge, s + i as u64, &mut out[i..]);
+    }
+}
+
+// The same under a fresh key, which is made ready on the way for the cuts that follow.
+pub fn put_first_cuts(
+    maker: Maker,
+    key: &[u8],
+    challenge: &[u8],
+    s: u64,
+    ready: &mut [u32],
+    out: &mut [u32],
+)
+    requires { ⌜ 16 ≤ length (now key) ⌝ }
+    requires { ⌜ length (now key) ≤ 32 ⌝ }
+    requires { ⌜ length (now challenge) ≤ 32 ⌝ }
+    requires { ⌜ s + length (now out) < 2 ^ 63 ⌝ }
+    requires { ⌜ length (now ready) ≡ 32 ⌝ }
+    ensures { λ _. ⌜ now (out .exit) ≡ cutsFrom (stepCut (maker .algorithm) (now (key .entry)) (now (challenge .entry)) (maker .timed)) (length (now (out .entry))) s ⌝ }
+    ensures { λ _. ⌜ (0 < length (now (out .entry)) → Ready (maker .algorithm) (now (key .entry)) (now (ready .exit))) ⌝ }
+{
+    if out.len() == 0 {
+        return;
+    }
+    let made = put_first(maker, key, challenge, s, ready, out);
+    put_cuts(
+        maker,
+        key,
+        ready,
+        challenge,
+        s + made as u64,
+        &mut out[made..],
+    );
 }

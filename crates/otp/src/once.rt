@@ -7,10 +7,9 @@ use crate::id::put_id;
 use crate::prepared::hashed;
 use sm4::first_block;
 ghost use mathlib.Core.Path.{_≡_};
-ghost use mathlib.Core.Bool.{true};
 ghost use Prim.Native.Nat.{_≤_};
 ghost use lib.ListN.{length};
-ghost use Rattle.otp.specs.Password.{idOf, filled, chained, cut, keyed, argumentsOk};
+ghost use Rattle.otp.specs.Password.{idOf, filled, chained, cut, keyed};
 
 // The SM4 way (6.2.3), cut: the first block makes the round keys as it uses them.
 fn ciphered_once(key: &[u8], time: Factor, count: Factor, challenge: &[u8]) -> u32
@@ -32,9 +31,10 @@ pub(crate) fn truncated_once(
     time: Factor,
     count: Factor,
     challenge: &[u8],
-    digits: usize,
 ) -> u32
-    requires { ⌜ argumentsOk algorithm (now key) time count (now challenge) digits ≡ true ⌝ }
+    requires { ⌜ 16 ≤ length (now key) ⌝ }
+    requires { ⌜ length (now key) ≤ 32 ⌝ }
+    requires { ⌜ length (now challenge) ≤ 32 ⌝ }
     ensures { λ r. ⌜ r ≡ cut (keyed algorithm (now (key .entry)) (filled (idOf time count (now (challenge .entry))))) ⌝ }
 {
     if algorithm == SM3 {

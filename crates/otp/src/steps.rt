@@ -1,8 +1,5 @@
-// The cuts of four consecutive steps by SM3 without a challenge, side by side, for the proved layers above.
+// The cuts of four consecutive steps by SM3 without a challenge, side by side.
 use crate::id::put_bytes;
-use crate::prepared::count_at;
-use crate::prepared::hashed;
-use crate::prepared::time_at;
 use sm3::sums::pad;
 use sm3_lanes::add_block;
 use sm3_lanes::four_sums;
@@ -12,17 +9,6 @@ ghost use Prim.Native.Nat.{_^_, _≤_, _<_};
 ghost use lib.ListN.{length};
 ghost use Rattle.otp.specs.StepCuts.{hashedCut, cutsFrom};
 ghost use Rattle.otp.specs.StepWords.{idNumber, spanWord, WordPut, StepsPut};
-
-// The cut of step s.
-pub(crate) fn hashed_cut(key: &[u8], timed: bool, s: u64) -> u32
-    requires { ⌜ length (now key) ≤ 32 ⌝ }
-    ensures { λ r. ⌜ r ≡ hashedCut (now (key .entry)) timed s ⌝ }
-{
-    let none = [0u8; 0];
-    let time = time_at(timed, s);
-    let count = count_at(timed, s);
-    hashed(key, time, count, &none)
-}
 
 // The first eight bytes of a step's filled ID as a number: T, or C and zeros.
 fn id_number(timed: bool, s: u64) -> u64

@@ -1,5 +1,5 @@
 -- What each function over a token's states returns, and the steps that may be accepted.
-use Prim.Native.Nat.{ℕ, _+_, _-_, _^_, _≤_, _<_}
+use Prim.Native.Nat.{ℕ, _+_, _-_, _≤_, _<_}
 use mathlib.Core.Path.{_≡_, refl}
 use mathlib.Core.Bool.{Bool, true, false, _&&_, cond}
 use native.Mathlib.Omega.{arith}
@@ -9,8 +9,7 @@ use Rattle.words.specs.BoolLaws.{and-false}
 use Rattle.window.specs.declared.Seconds.{Seconds}
 use Rattle.window.specs.declared.Offset.{Offset}
 use Rattle.window.specs.declared.Track.{Track}
-use Rattle.window.specs.declared.Outcome.{Outcome}
-use Rattle.window.specs.Window.{timeToken, stepAt, distance, farthest}
+use Rattle.window.specs.Window.{timeToken, stepAt, farthest}
 use Rattle.row.specs.declared.Row.{Row}
 use Rattle.token.specs.Lines.{ready, lockedByErrors}
 use Rattle.token.specs.States.{changed, waitOver, waited, lockedAfter, withState, Near, offsetAfter, trackAfter, accepted, errorsAfter, failed}

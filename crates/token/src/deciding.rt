@@ -139,7 +139,8 @@ pub fn decide(request: Request, row: Row, clock: Seconds, key: &[u8], challenge:
             if found.expiry.0 <= clock.0 {
                 return refusing(Refusal::Expired, found);
             }
-            let outcome = check(found.track, clock, key, challenge, asked);
+            let swept = check(found.track, clock, key, challenge, asked);
+            let outcome = swept.outcome;
             judging(line, fails, found, clock, outcome)
         }
     }

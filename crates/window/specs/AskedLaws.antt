@@ -1,30 +1,32 @@
--- What is asked of a token's window, by the searches for its numbers.
+-- What is asked of a token's window, by the sweep for its numbers.
 use Prim.Native.Nat.{ℕ, _+_, _≤_}
-use mathlib.Core.Path.{_≡_, sym, ap, _∙_}
-use mathlib.Core.Bool.{true, false, not, _&&_, _||_}
+use native.Mathlib.Nat.{add-zero}
+use mathlib.Core.Path.{_≡_, refl, sym, ap, _∙_}
+use mathlib.Core.Bool.{Bool, true, false, not, _&&_}
 use mathlib.Core.List.{List, []}
 use borrow.Author.Tests.{eqb-true, eqb-false, not-true, not-false}
 use lib.Dec.{eqb}
-use Rattle.words.specs.BoolLaws.{by-test, and-false, clash}
+use Rattle.words.specs.BoolLaws.{and-left, and-right, by-test, and-false}
 use Rattle.otp.specs.declared.typed.Password.{Password}
 use Rattle.otp.specs.Typed.{digitsOf}
 use Rattle.window.specs.declared.Size.{Size}
 use Rattle.window.specs.declared.Step.{Step}
 use Rattle.window.specs.declared.Track.{Track}
-use Rattle.window.specs.declared.Outcome.{Outcome}
+use Rattle.window.specs.declared.Swept.{Swept}
 use Rattle.window.specs.declared.Outcome.the-variants.{Accepted, Wrong}
 use Rattle.window.specs.declared.goal.Goal.{Goal}
 use Rattle.window.specs.declared.asked.Asked.{Asked}
-use Rattle.window.specs.Window.{candidate}
-use Rattle.window.specs.Range.{rangesOf}
-use Rattle.window.specs.Search.{searched}
-use Rattle.window.specs.Goal.{singleGoal, pairGoal, aheadBy, hitsAt, cutAt}
-use Rattle.window.specs.GoalLaws.{single-ahead, pair-ahead, single-hits, pair-hits}
+use Rattle.window.specs.Window.{candidate, beyond}
+use Rattle.window.specs.Check.{pairHit, settled}
+use Rattle.window.specs.Goal.{singleGoal, pairGoal, cutAt}
+use Rattle.window.specs.GoalLaws.{single-hits, pair-hits}
 use Rattle.window.specs.PasswordAt.{PasswordRule, passwordAt, hasBy}
 use Rattle.window.specs.PasswordAtLaws.{other-count}
 use Rattle.window.specs.Meaning.{single-accepts-candidate, single-means, pair-accepts-candidate, pair-means}
-use Rattle.window.specs.TokenCheckLaws.{single-searched, pair-searched}
+use Rattle.window.specs.TokenCheck.{singleCheck, pairCheck}
 use Rattle.window.specs.Asked.{oneAsked, twoAsked, outcomeOf, windowSize}
+use Rattle.window.specs.Sweep.{countsRight, computedOf, goalHit, goalOutcome, sweptBy}
+use Rattle.window.specs.CheckLaws.{checked-agree}
 
 -- what is accepted is a candidate
 pub asked-accepts-candidate : (passwords : PasswordRule) (k : Track) (clock : ℕ) (key challenge : List ℕ) (asked : Asked) {a : Step}
@@ -33,74 +35,93 @@ asked-accepts-candidate passwords k clock key challenge (Asked.One size p) e = s
 asked-accepts-candidate passwords k clock key challenge (Asked.Challenged size p) e = single-accepts-candidate k clock size _ e
 asked-accepts-candidate passwords k clock key challenge (Asked.Two size p q) e = pair-accepts-candidate k clock size _ _ e
 
--- both counts are n
-both-counted : (a b n : ℕ) → not (eqb a n) || not (eqb b n) ≡ false → (a ≡ n) × (b ≡ n)
-both-counted a b n t =
-    by-test (eqb a n)
-    (λ u. (eqb-true a n u, eqb-true b n (not-false (eqb b n) (rw u at t))))
-    (λ u. clash (rw u) t)
-
 module _ (k : Track) (clock : ℕ) (key : List ℕ) (size : Size) where
-  -- ---- a count of digits not the token's is wrong, and nothing need be searched
+  -- ---- a count of digits not the token's is wrong
 
-  one-miscounted : (challenge : List ℕ) (p : Password) → (p .digits ≡ k .scheme .digits → ⊥) → Wrong ≡ oneAsked passwordAt k clock key size challenge p
-  one-miscounted challenge p n =
+  one-miscounted : (challenge : List ℕ) (p : Password) → eqb (p .digits) (k .scheme .digits) ≡ false → Wrong ≡ oneAsked passwordAt k clock key size challenge p
+  one-miscounted challenge p t =
       sym (single-means k clock size (hasBy passwordAt (k .scheme) key challenge (digitsOf p)) .wrong .1
-      (λ s. rw (other-count (k .scheme) key challenge p s n) (and-false (candidate k clock size s))))
+      (λ s. rw (other-count (k .scheme) key challenge p s (eqb-false (p .digits) (k .scheme .digits) t)) (and-false (candidate k clock size s))))
 
-  two-miscounted : (p q : Password) → not (eqb (p .digits) (k .scheme .digits)) || not (eqb (q .digits) (k .scheme .digits)) ≡ true → Wrong ≡ twoAsked passwordAt k clock key size p q
+  two-miscounted : (p q : Password) → eqb (p .digits) (k .scheme .digits) && eqb (q .digits) (k .scheme .digits) ≡ false → Wrong ≡ twoAsked passwordAt k clock key size p q
   two-miscounted p q t =
       sym (pair-means k clock size (hasBy passwordAt (k .scheme) key [] (digitsOf p)) (hasBy passwordAt (k .scheme) key [] (digitsOf q)) .wrong .1
       (λ s. by-test (eqb (p .digits) (k .scheme .digits))
-      (λ u. rw (other-count (k .scheme) key [] q (s + 1) (second u), and-false, and-false))
+      (λ u. rw (other-count (k .scheme) key [] q (s + 1) (eqb-false (q .digits) (k .scheme .digits) (rw u at t)), and-false, and-false))
       (λ u. rw (other-count (k .scheme) key [] p s (eqb-false (p .digits) (k .scheme .digits) u)) (and-false (candidate k clock size s && candidate k clock size (s + 1))))))
-    where
-      second : eqb (p .digits) (k .scheme .digits) ≡ true → q .digits ≡ k .scheme .digits → ⊥
-      second u = eqb-false (q .digits) (k .scheme .digits) (not-true _ (rw u at t))
 
-  -- ---- the searches find what is asked
+  -- ---- the sweep finds what is asked
 
-  one-searched : (challenge : List ℕ) (p : Password) {g : Goal} → p .digits ≡ k .scheme .digits → g ≡ singleGoal p
-      → searched (hitsAt g (cutAt (k .scheme) key challenge)) (rangesOf k clock size 0) ≡ oneAsked passwordAt k clock key size challenge p
-  one-searched challenge p {g} e eg =
-      single-searched k clock size (hitsAt g (cutAt (k .scheme) key challenge)) (hasBy passwordAt (k .scheme) key challenge (digitsOf p))
-      (λ s. rw eg (single-hits (k .scheme) key challenge p s e))
+  and-twice : (a b : Bool) → (a && a) && b ≡ a && b
+  and-twice true b = refl
+  and-twice false b = refl
 
-  two-searched : (p q : Password) {g : Goal} → p .digits ≡ k .scheme .digits → q .digits ≡ k .scheme .digits → g ≡ pairGoal p q
-      → searched (hitsAt g (cutAt (k .scheme) key [])) (rangesOf k clock size 1) ≡ twoAsked passwordAt k clock key size p q
-  two-searched p q {g} ep eq eg =
-      pair-searched k clock size (hitsAt g (cutAt (k .scheme) key [])) (hasBy passwordAt (k .scheme) key [] (digitsOf p)) (hasBy passwordAt (k .scheme) key [] (digitsOf q))
-      (λ s. rw eg (pair-hits (k .scheme) key [] p q s ep eq))
+  one-swept : (challenge : List ℕ) (p : Password) → eqb (p .digits) (k .scheme .digits) ≡ true
+      → goalOutcome k clock size (singleGoal p) (cutAt (k .scheme) key challenge) ≡ oneAsked passwordAt k clock key size challenge p
+  unfolding singleCheck singleGoal
+  one-swept challenge p t =
+      ap (settled 0) (checked-agree _ _ (k .next .0) (beyond k clock)
+      (λ s. rw (add-zero s, single-hits (k .scheme) key challenge p (cutAt (k .scheme) key challenge s) s (eqb-true (p .digits) (k .scheme .digits) t))
+      (and-twice (candidate k clock size s) (hasBy passwordAt (k .scheme) key challenge (digitsOf p) s))))
+
+  two-swept : (p q : Password) → eqb (p .digits) (k .scheme .digits) && eqb (q .digits) (k .scheme .digits) ≡ true
+      → goalOutcome k clock size (pairGoal p q) (cutAt (k .scheme) key []) ≡ twoAsked passwordAt k clock key size p q
+  unfolding pairCheck pairGoal
+  two-swept p q t =
+      let first = hasBy passwordAt (k .scheme) key [] (digitsOf p) in
+      let second = hasBy passwordAt (k .scheme) key [] (digitsOf q) in
+      ap (settled 1) (checked-agree (goalHit (candidate k clock size) (pairGoal p q) (cutAt (k .scheme) key [])) (pairHit (candidate k clock size) first second) (k .next .0) (beyond k clock)
+      (λ s. rw (pair-hits (k .scheme) key [] p q s (eqb-true (p .digits) (k .scheme .digits) (and-left _ _ t)) (eqb-true (q .digits) (k .scheme .digits) (and-right (eqb (p .digits) (k .scheme .digits)) _ t)))))
 
 -- ---- the ways through `check`
 
-pub two-counted : (n : ℕ) {asked : Asked} {size : Size} {p q : Password} → asked ≡ Asked.Two size p q → not (eqb (p .digits) n) || not (eqb (q .digits) n) ≡ false → n ≤ 10 → p .digits ≤ 10
-two-counted n {p = p} {q = q} e t h = rw (both-counted (p .digits) (q .digits) n t .0) h
+-- what a check gives
+pub record Given (k : Track) (clock : ℕ) (key challenge : List ℕ) (asked : Asked) (r : Swept) : Type 0 where
+  pub found : r .outcome ≡ outcomeOf passwordAt k clock key challenge asked
+  pub counted : r .computed ≡ computedOf passwordAt k clock key challenge asked
 
-module _ (k : Track) (clock : ℕ) (key challenge : List ℕ) {asked : Asked} {size : Size} {p : Password} where
-  module _ (e : asked ≡ Asked.One size p) where
-    pub one-wrong : (p .digits ≡ k .scheme .digits → ⊥) → Wrong ≡ outcomeOf passwordAt k clock key challenge asked
-    one-wrong n = rw e (one-miscounted k clock key size [] p n)
+module _ (k : Track) (clock : ℕ) (key challenge : List ℕ) (asked : Asked) {b : Bool} (eb : b ≡ countsRight (k .scheme .digits) asked) where
+  pub check-miscounted : not b ≡ true → Given k clock key challenge asked (record { outcome = Wrong; computed = 0 })
+  unfolding computedOf
+  check-miscounted t = let u : countsRight (k .scheme .digits) asked ≡ false = sym eb ∙ not-true b t in record { found = wrong asked u; counted = rw u }
+    where
+      wrong : (asked : Asked) → countsRight (k .scheme .digits) asked ≡ false → Wrong ≡ outcomeOf passwordAt k clock key challenge asked
+      wrong (Asked.One size p) u = one-miscounted k clock key size [] p u
+      wrong (Asked.Challenged size p) u = one-miscounted k clock key size challenge p u
+      wrong (Asked.Two size p q) u = two-miscounted k clock key size p q u
 
-    pub one-found : {g : Goal} {r : Outcome} → p .digits ≡ k .scheme .digits → g ≡ singleGoal p
-        → r ≡ searched (hitsAt g (cutAt (k .scheme) key [])) (rangesOf k clock size (aheadBy g)) → r ≡ outcomeOf passwordAt k clock key challenge asked
-    one-found {g} d eg er =
-        rw e (er ∙ ap (λ (n : ℕ). searched (hitsAt g (cutAt (k .scheme) key [])) (rangesOf k clock size n)) (single-ahead p eg) ∙ one-searched k clock key size [] p d eg)
+  module _ (t : not b ≡ false) where
+    right : countsRight (k .scheme .digits) asked ≡ true
+    right = sym eb ∙ not-false b t
 
-  module _ (e : asked ≡ Asked.Challenged size p) where
-    pub challenged-wrong : (p .digits ≡ k .scheme .digits → ⊥) → Wrong ≡ outcomeOf passwordAt k clock key challenge asked
-    challenged-wrong n = rw e (one-miscounted k clock key size challenge p n)
+    -- the modulus of a goal is of at most ten digits
+    pub one-counted : {size : Size} {p : Password} → asked ≡ Asked.One size p → k .scheme .digits ≤ 10 → p .digits ≤ 10
+    one-counted {p = p} e l = let u : eqb (p .digits) (k .scheme .digits) ≡ true = rw e at right in rw (eqb-true (p .digits) (k .scheme .digits) u) l
 
-    pub challenged-found : {g : Goal} {r : Outcome} → p .digits ≡ k .scheme .digits → g ≡ singleGoal p
-        → r ≡ searched (hitsAt g (cutAt (k .scheme) key challenge)) (rangesOf k clock size 0) → r ≡ outcomeOf passwordAt k clock key challenge asked
-    challenged-found d eg er = rw e (er ∙ one-searched k clock key size challenge p d eg)
+    pub challenged-counted : {size : Size} {p : Password} → asked ≡ Asked.Challenged size p → k .scheme .digits ≤ 10 → p .digits ≤ 10
+    challenged-counted {p = p} e l = let u : eqb (p .digits) (k .scheme .digits) ≡ true = rw e at right in rw (eqb-true (p .digits) (k .scheme .digits) u) l
 
-  module _ {q : Password} (e : asked ≡ Asked.Two size p q) where
-    pub two-wrong : not (eqb (p .digits) (k .scheme .digits)) || not (eqb (q .digits) (k .scheme .digits)) ≡ true → Wrong ≡ outcomeOf passwordAt k clock key challenge asked
-    two-wrong t = rw e (two-miscounted k clock key size p q t)
+    pub two-counted : {size : Size} {p q : Password} → asked ≡ Asked.Two size p q → k .scheme .digits ≤ 10 → p .digits ≤ 10
+    two-counted {p = p} {q = q} e l =
+        let u : eqb (p .digits) (k .scheme .digits) && eqb (q .digits) (k .scheme .digits) ≡ true = rw e at right in rw (eqb-true (p .digits) (k .scheme .digits) (and-left _ _ u)) l
 
-    pub two-found : {g : Goal} {r : Outcome} → not (eqb (p .digits) (k .scheme .digits)) || not (eqb (q .digits) (k .scheme .digits)) ≡ false → g ≡ pairGoal p q
-        → r ≡ searched (hitsAt g (cutAt (k .scheme) key [])) (rangesOf k clock size (aheadBy g)) → r ≡ outcomeOf passwordAt k clock key challenge asked
-    two-found {g} t eg er =
-        let counts = both-counted (p .digits) (q .digits) (k .scheme .digits) t in
-        rw e (er ∙ ap (λ (n : ℕ). searched (hitsAt g (cutAt (k .scheme) key [])) (rangesOf k clock size n)) (pair-ahead p q eg) ∙ two-searched k clock key size p q (counts .0) (counts .1) eg)
+    given : (cutOf : ℕ → ℕ) (g : Goal) {r : Swept} → goalOutcome k clock (windowSize asked) g cutOf ≡ outcomeOf passwordAt k clock key challenge asked
+        → r ≡ sweptBy k clock (windowSize asked) g cutOf → Given k clock key challenge asked r
+    unfolding computedOf sweptBy
+    given cutOf g e er = record { found = ap (λ (x : Swept). x .outcome) er ∙ e; counted = ap (λ (x : Swept). x .computed) er ∙ rw (right, e) }
+
+    module _ {size : Size} {p : Password} {g : Goal} {r : Swept} where
+      pub check-one : asked ≡ Asked.One size p → g ≡ singleGoal p → r ≡ sweptBy k clock size g (cutAt (k .scheme) key []) → Given k clock key challenge asked r
+      check-one e eg er =
+          let u : eqb (p .digits) (k .scheme .digits) ≡ true = rw e at right in
+          given (cutAt (k .scheme) key []) g (rw (eg, e) (one-swept k clock key size [] p u)) (rw e er)
+
+      pub check-challenged : asked ≡ Asked.Challenged size p → g ≡ singleGoal p → r ≡ sweptBy k clock size g (cutAt (k .scheme) key challenge) → Given k clock key challenge asked r
+      check-challenged e eg er =
+          let u : eqb (p .digits) (k .scheme .digits) ≡ true = rw e at right in
+          given (cutAt (k .scheme) key challenge) g (rw (eg, e) (one-swept k clock key size challenge p u)) (rw e er)
+
+      pub check-two : {q : Password} → asked ≡ Asked.Two size p q → g ≡ pairGoal p q → r ≡ sweptBy k clock size g (cutAt (k .scheme) key []) → Given k clock key challenge asked r
+      check-two {q} e eg er =
+          let u : eqb (p .digits) (k .scheme .digits) && eqb (q .digits) (k .scheme .digits) ≡ true = rw e at right in
+          given (cutAt (k .scheme) key []) g (rw (eg, e) (two-swept k clock key size p q u)) (rw e er)

@@ -1,15 +1,18 @@
--- The smallest number that passes a test, and the loop that finds it.
-use Prim.Native.Nat.{ℕ, zero, suc, _+_, _≤_, _<_, zero-le}
-use mathlib.Core.Path.{_≡_, refl, ap}
-use mathlib.Core.Bool.{Bool, true, false, cond}
+-- The smallest number that passes a test, and the check step by step upward.
+use Prim.Native.Nat.{ℕ, zero, suc, _+_, _-_, _≤_, _<_, min, zero-le}
+use mathlib.Core.Path.{_≡_, refl, sym, ap, ap₂, _∙_}
+use mathlib.Core.Bool.{Bool, true, false, cond, _&&_}
 use mathlib.Core.Logic.{_⊎_, inl, inr, ⊎-elim}
 use mathlib.Core.Option.{Option, none, some}
-use native.Mathlib.Nat.{not-suc-le-zero, le-refl, le-trans, le-suc}
+use native.Mathlib.Nat.{add-zero, not-suc-le-zero, le-refl, le-trans, le-suc}
 use native.Mathlib.Numerals.{add-one}
 use native.Mathlib.Omega.{arith}
-use Rattle.words.specs.BoolLaws.{clash}
-use Rattle.window.specs.Check.{orElse, smallest}
-use Rattle.window.specs.Search.{sweep}
+use borrow.Author.Tests.{le-leb, lt-leb, lt-ltb, le-ltb}
+use lib.Dec.{leb, ltb}
+use Rattle.words.specs.BoolLaws.{and-false, impossible}
+use Rattle.window.specs.declared.Outcome.the-variants.{Accepted, Used, Wrong}
+use Rattle.window.specs.Check.{orElse, smallest, freshHit, usedHit, judged, checked}
+use Rattle.window.specs.Sweep.{unaccepted}
 
 -- no number below n passes the test
 abbrev pub NoneBelow : (ℕ → Bool) → ℕ → Type 0
@@ -50,35 +53,87 @@ order r zero = inr zero-le
 order zero (suc s) = inl (omega arith)
 order (suc r) (suc s) = ⊎-elim (λ (l : r < s). inl (omega arith)) (λ (l : s ≤ r). inr (omega arith)) (order r s)
 
-least-unique : (test : ℕ → Bool) (n : ℕ) {r s : ℕ} → Least test n r → Least test n s → r ≡ s
-least-unique test n {r} {s} p q = ⊎-elim (λ (l : r < s). clash (p .passes) (q .before r l)) (λ (l : s ≤ r). other l) (order r s)
-  where
-    other : s ≤ r → r ≡ s
-    other l = ⊎-elim (λ (m : s < r). clash (q .passes) (p .before s m)) (λ (m : r ≤ s). omega arith) (order s r)
+-- ---- the check, a step higher
 
-least-is-smallest : (test : ℕ → Bool) (n : ℕ) {s : ℕ} → Least test n s → smallest test n ≡ some s
-least-is-smallest test n {s} l = told (smallest test n) (smallest-found test n)
-  where
-    told : (o : Option ℕ) → Found test n o → o ≡ some s
-    told (some x) (found m) = ap some (least-unique test n m l)
-    told none (missing h) = clash (l .passes) (h s (l .within))
+module _ (hit : ℕ → Bool) (next : ℕ) where
+  checked-suc : (s : ℕ) → checked hit next (s + 1)
+      ≡ judged (orElse (smallest (freshHit hit next) s) (cond (freshHit hit next s) (some s) none)) (orElse (smallest (usedHit hit next) s) (cond (usedHit hit next s) (some s) none))
+  unfolding checked smallest
+  checked-suc s = rw add-one
 
--- ---- the loop
+  -- a step that is no hit changes nothing
+  pub checked-miss : (s : ℕ) → hit s ≡ false → checked hit next (s + 1) ≡ checked hit next s
+  unfolding checked
+  checked-miss s e = checked-suc s ∙ rw (e, and-false (leb next s), and-false (ltb s next)) (ap₂ judged (or-none (smallest (freshHit hit next) s)) (or-none (smallest (usedHit hit next) s)))
+    where
+      or-none : (o : Option ℕ) → orElse o none ≡ o
+      or-none none = refl
+      or-none (some x) = refl
 
--- a test that nothing outside the range passes is searched within it
-pub smallest-is-sweep : (test : ℕ → Bool) (n from k : ℕ) → from + k ≤ n → NoneBelow test from → ((r : ℕ) → from + k ≤ r → test r ≡ false)
-    → smallest test n ≡ sweep test from k
-unfolding sweep
-smallest-is-sweep test n from zero h before after = none-found (smallest test n) (smallest-found test n)
-  where
-    none-found : (o : Option ℕ) → Found test n o → o ≡ none
-    none-found none f = refl
-    none-found (some s) (found l) = clash (l .passes) (⊎-elim (λ (m : s < from). before s m) (λ (m : from ≤ s). after s (omega arith)) (order s from))
-smallest-is-sweep test n from (suc k) h before after =
-    go (test from) refl
-    (λ e. smallest-is-sweep test n (from + 1) k (omega arith) (let m : NoneBelow test (suc from) = below-suc test from before e in rw (add-one from) m) (λ r l. after r (omega arith)))
-  where
-    go : (b : Bool) → test from ≡ b → (test from ≡ false → smallest test n ≡ sweep test (from + 1) k)
-        → smallest test n ≡ cond b (some from) (sweep test (from + 1) k)
-    go true e rest = least-is-smallest test n (record { within = omega arith; passes = e; before = before })
-    go false e rest = rest e
+  -- nor do many
+  pub checked-misses : (s n : ℕ) → ((r : ℕ) → s ≤ r → r < s + n → hit r ≡ false) → checked hit next (s + n) ≡ checked hit next s
+  checked-misses s zero h = rw (add-zero s)
+  checked-misses s (suc n) h =
+      let e : s + suc n ≡ s + n + 1 = omega arith in
+      rw e (checked-miss (s + n) (h (s + n) (omega arith) (omega arith)) ∙ checked-misses s n (λ r l m. h r l (omega arith)))
+
+  -- where there is no hit from one of two steps on, it does not matter at which of them the check ends
+  pub checked-same : (s n : ℕ) → ((r : ℕ) → min s n ≤ r → hit r ≡ false) → checked hit next n ≡ checked hit next s
+  checked-same s n h =
+      ⊎-elim
+      (λ (l : s < n). let e : n ≡ s + (n - s) = omega arith in ap (checked hit next) e ∙ checked-misses s (n - s) (λ r a b. h r (omega arith)))
+      (λ (l : n ≤ s). let e : s ≡ n + (s - n) = omega arith in sym (ap (checked hit next) e ∙ checked-misses n (s - n) (λ r a b. h r (omega arith))))
+      (order s n)
+
+  pub checked-none : checked hit next 0 ≡ Wrong
+  unfolding checked smallest
+  checked-none = refl
+
+  -- a hit on a used step, and on a fresh one, where nothing was accepted before
+  module _ (s : ℕ) (u : Bool) (e : checked hit next s ≡ unaccepted u) (t : hit s ≡ true) where
+    none-fresh : (f o : Option ℕ) (u : Bool) → judged f o ≡ unaccepted u → f ≡ none
+    none-fresh none o u e = refl
+    none-fresh (some x) o true e = impossible (cc)
+    none-fresh (some x) o false e = impossible (cc)
+
+    pub checked-used : s < next → checked hit next (s + 1) ≡ Used
+    unfolding checked
+    checked-used l =
+        checked-suc s
+        ∙ rw (t, lt-leb next s l, lt-ltb s next l, none-fresh (smallest (freshHit hit next) s) (smallest (usedHit hit next) s) u e) (told (smallest (usedHit hit next) s))
+      where
+        told : (o : Option ℕ) → judged none (orElse o (some s)) ≡ Used
+        told none = refl
+        told (some x) = refl
+
+    pub checked-fresh : next ≤ s → checked hit next (s + 1) ≡ Accepted (record { 0 = s })
+    unfolding checked
+    checked-fresh l =
+        checked-suc s
+        ∙ rw (t, le-leb next s l, le-ltb s next l, none-fresh (smallest (freshHit hit next) s) (smallest (usedHit hit next) s) u e)
+
+  -- what was accepted stays
+  pub accepted-stays : (s n k : ℕ) → checked hit next n ≡ Accepted (record { 0 = s }) → checked hit next (n + k) ≡ Accepted (record { 0 = s })
+  unfolding checked
+  accepted-stays s n zero e = rw (add-zero n) e
+  accepted-stays s n (suc k) e =
+      let q : n + suc k ≡ n + k + 1 = omega arith in
+      rw q (checked-suc (n + k) ∙ told (smallest (freshHit hit next) (n + k)) (smallest (usedHit hit next) (n + k)) _ _ (accepted-stays s n k e))
+    where
+      told : (f o x y : Option ℕ) → judged f o ≡ Accepted (record { 0 = s }) → judged (orElse f x) (orElse o y) ≡ Accepted (record { 0 = s })
+      told (some v) o x y e = e
+      told none none x y e = impossible (cc)
+      told none (some v) x y e = impossible (cc)
+
+-- tests that agree find the same
+smallest-agree : (test other : ℕ → Bool) → ((s : ℕ) → test s ≡ other s) → (n : ℕ) → smallest test n ≡ smallest other n
+unfolding smallest
+smallest-agree test other h zero = refl
+smallest-agree test other h (suc n) = rw (smallest-agree test other h n, h n)
+
+pub checked-agree : (hit other : ℕ → Bool) (next n : ℕ) → ((s : ℕ) → hit s ≡ other s) → checked hit next n ≡ checked other next n
+unfolding checked
+checked-agree hit other next n h =
+    ap₂ judged
+    (smallest-agree (freshHit hit next) (freshHit other next) (λ s. ap (λ (b : Bool). leb next s && b) (h s)) n)
+    (smallest-agree (usedHit hit next) (usedHit other next) (λ s. ap (λ (b : Bool). ltb s next && b) (h s)) n)

@@ -1,9 +1,10 @@
 -- What is searched for: the numbers of the presented passwords, and which cuts of steps have them.
-use Prim.Native.Nat.{ℕ, _-_, _%_, _^_}
+use Prim.Native.Nat.{ℕ, _%_, _^_}
 use mathlib.Core.Bool.{Bool, true, false, cond, not, _&&_, _||_}
 use mathlib.Core.List.{List}
 use lib.Dec.{eqb}
 use Rattle.otp.specs.declared.typed.Password.{Password}
+use Rattle.otp.specs.declared.lists.Maker.{Maker}
 use Rattle.otp.specs.CutLists.{stepCut}
 use Rattle.window.specs.declared.Scheme.{Scheme}
 use Rattle.window.specs.declared.goal.Goal.{Goal}
@@ -21,13 +22,13 @@ pairGoal p q = record { pair = true; modulus = 10 ^ p .digits; before = p .numbe
 abbrev pub aheadBy : Goal → ℕ
 aheadBy goal = cond (goal .pair) 1 0
 
--- y is the cut of the step to accept, x that of the step before it
+-- x is the cut of the step that hits, y that of the step to accept
 unfoldable pub hits : Goal → ℕ → ℕ → Bool
 hits goal x y = eqb (y % goal .modulus) (goal .last) && (not (goal .pair) || eqb (x % goal .modulus) (goal .before))
 
--- step a is to be accepted, by the cut of each step
-unfoldable pub hitsAt : Goal → (ℕ → ℕ) → ℕ → Bool
-hitsAt goal cutOf a = hits goal (cutOf (a - 1)) (cutOf a)
+-- how a token's steps are cut: by its algorithm, as times or as counts
+abbrev pub makerOf : Scheme → Maker
+makerOf scheme = record { algorithm = scheme .algorithm; timed = eqb (scheme .kind) timeToken }
 
 -- the cut of a token's step
 abbrev pub cutAt : Scheme → List ℕ → List ℕ → ℕ → ℕ

@@ -1,13 +1,12 @@
 -- A goal's cuts are those of the steps that have its passwords.
 use Prim.Native.Nat.{ℕ, _+_, _-_, _%_, _^_, _<_}
-use mathlib.Core.Path.{_≡_, refl, sym, ap, ap₂, _∙_}
+use mathlib.Core.Path.{_≡_, refl, sym, ap, _∙_}
 use mathlib.Core.Bool.{Bool, true, false, not, _&&_, _||_}
 use mathlib.Core.List.{List}
 use native.Mathlib.Nat.{one-le-pow, zero-lt-suc}
-use native.Mathlib.Omega.{arith}
 use borrow.Author.Tests.{eq-eqb, ne-eqb}
 use lib.Dec.{eqb}
-use Rattle.words.specs.BoolLaws.{by-test, and-true, clash}
+use Rattle.words.specs.BoolLaws.{and-true}
 use Rattle.otp.specs.declared.typed.Password.{Password}
 use Rattle.otp.specs.Password.{shown, passwordOf}
 use Rattle.otp.specs.Typed.{digitsOf}
@@ -16,7 +15,7 @@ use Rattle.otp.specs.CutLists.{stepCut}
 use Rattle.window.specs.declared.Scheme.{Scheme}
 use Rattle.window.specs.declared.goal.Goal.{Goal}
 use Rattle.window.specs.PasswordAt.{passwordAt, hasBy}
-use Rattle.window.specs.Goal.{singleGoal, pairGoal, aheadBy, hits, hitsAt, cutAt}
+use Rattle.window.specs.Goal.{singleGoal, pairGoal, hits, cutAt}
 
 -- ---- the goals
 
@@ -27,20 +26,9 @@ pub single-modulus : (p : Password) {g : Goal} → g ≡ singleGoal p → 0 < g 
 unfolding singleGoal
 single-modulus p e = ten-above (p .digits) (ap (λ (g : Goal). g .modulus) e)
 
-pub single-alone : (p : Password) {g : Goal} → g ≡ singleGoal p → g .pair ≡ false
-unfolding singleGoal
-single-alone p e = rw e
-
-pub single-ahead : (p : Password) {g : Goal} → g ≡ singleGoal p → aheadBy g ≡ 0
-single-ahead p e = rw (single-alone p e)
-
 pub pair-modulus : (p q : Password) {g : Goal} → g ≡ pairGoal p q → 0 < g .modulus
 unfolding pairGoal
 pair-modulus p q e = ten-above (p .digits) (ap (λ (g : Goal). g .modulus) e)
-
-pub pair-ahead : (p q : Password) {g : Goal} → g ≡ pairGoal p q → aheadBy g ≡ 1
-unfolding pairGoal
-pair-ahead p q e = rw e
 
 -- ---- two cuts
 
@@ -53,15 +41,6 @@ module _ (goal : Goal) (x y : ℕ) where
   unfolding hits
   hits-last e = rw (eq-eqb (y % goal .modulus) (goal .last) e)
 
--- only a pair asks for the step before
-pub hits-prior : (goal : Goal) {x x′ : ℕ} (y : ℕ) → (goal .pair ≡ true → x ≡ x′) → hits goal x y ≡ hits goal x′ y
-unfolding hits
-hits-prior goal y h = by-test (goal .pair) (λ t. rw (h t)) (λ t. rw t)
-
-pub hits-alone : (goal : Goal) (cutOf : ℕ → ℕ) (a x : ℕ) {y : ℕ} {b : Bool} → goal .pair ≡ false → y ≡ cutOf a → b ≡ hits goal x y → hitsAt goal cutOf a ≡ b
-unfolding hitsAt
-hits-alone goal cutOf a x n ey eb = hits-prior goal (cutOf a) (λ t. clash t n) ∙ ap (hits goal x) (sym ey) ∙ sym eb
-
 -- ---- cuts and passwords
 
 module _ (scheme : Scheme) (key challenge : List ℕ) where
@@ -71,24 +50,21 @@ module _ (scheme : Scheme) (key challenge : List ℕ) where
   unfolding passwordAt passwordOf shown stepCut digitsOf
   has-number p n s ep es = rw (ep, es) (same-digits n (cutAt scheme key challenge s) (p .number))
 
-  pub single-hits : (p : Password) (a : ℕ) → p .digits ≡ scheme .digits
-      → hitsAt (singleGoal p) (cutAt scheme key challenge) a ≡ hasBy passwordAt scheme key challenge (digitsOf p) a
-  unfolding hitsAt hits singleGoal
-  single-hits p a e = and-true _ ∙ sym (has-number p (p .digits) a refl (sym e))
+  pub single-hits : (p : Password) (x s : ℕ) → p .digits ≡ scheme .digits
+      → hits (singleGoal p) x (cutAt scheme key challenge s) ≡ hasBy passwordAt scheme key challenge (digitsOf p) s
+  unfolding hits singleGoal
+  single-hits p x s e = and-true _ ∙ sym (has-number p (p .digits) s refl (sym e))
 
   pub pair-hits : (p q : Password) (s : ℕ) → p .digits ≡ scheme .digits → q .digits ≡ scheme .digits
-      → hitsAt (pairGoal p q) (cutAt scheme key challenge) (s + 1)
+      → hits (pairGoal p q) (cutAt scheme key challenge s) (cutAt scheme key challenge (s + 1))
       ≡ hasBy passwordAt scheme key challenge (digitsOf p) s && hasBy passwordAt scheme key challenge (digitsOf q) (s + 1)
-  unfolding hitsAt hits pairGoal
+  unfolding hits pairGoal
   pair-hits p q s ep eq =
-      let before : s + 1 - 1 ≡ s = omega arith in
       let first = has-number p (p .digits) s refl (sym ep) in
       let second = has-number q (p .digits) (s + 1) (eq ∙ sym ep) (sym ep) in
-      let number : ℕ → ℕ = λ a. cutAt scheme key challenge a % 10 ^ p .digits in
-      rw before (and-swap (eqb (number (s + 1)) (q .number % 10 ^ p .digits)) (eqb (number s) (p .number % 10 ^ p .digits)) ∙ sym (ap₂ _&&_ first second))
+      rw (first, second) (and-swap (eqb (cutAt scheme key challenge (s + 1) % 10 ^ p .digits) (q .number % 10 ^ p .digits)) (eqb (cutAt scheme key challenge s % 10 ^ p .digits) (p .number % 10 ^ p .digits)))
     where
       and-swap : (a b : Bool) → a && b ≡ b && a
-      and-swap true true = refl
-      and-swap true false = refl
+      and-swap true b = sym (and-true b)
       and-swap false true = refl
       and-swap false false = refl

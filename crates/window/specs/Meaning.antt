@@ -2,6 +2,7 @@
 use Prim.Native.Nat.{ℕ, _+_, _≤_, _<_}
 use mathlib.Core.Path.{_≡_, refl, sym, ap, _∙_}
 use mathlib.Core.Bool.{Bool, true, false, _&&_}
+use mathlib.Core.List.{List}
 use mathlib.Core.Logic.{⊎-elim}
 use mathlib.Core.Option.{Option, none, some}
 use native.Mathlib.Nat.{add-zero, le-trans}
@@ -13,6 +14,7 @@ use Rattle.window.specs.declared.Size.{Size}
 use Rattle.window.specs.declared.Step.{Step}
 use Rattle.window.specs.declared.Track.{Track}
 use Rattle.window.specs.declared.Outcome.{Outcome}
+use Rattle.window.specs.declared.asked.Asked.{Asked}
 use Rattle.window.specs.declared.Outcome.the-variants.{Accepted, Used, Wrong}
 use Rattle.window.specs.Window.{timeToken, stepAt, distance, timeWidth, farthest, timeCandidate, candidate, beyond}
 use Rattle.window.specs.Range.{firstStep, endStep}
@@ -20,6 +22,10 @@ use Rattle.window.specs.WindowLaws.{candidates-are-range, end-below}
 use Rattle.window.specs.Check.{smallest, freshHit, usedHit, judged, checked, singleHit, pairHit, settled}
 use Rattle.window.specs.CheckLaws.{NoneBelow, Found, found, missing, smallest-found, order}
 use Rattle.window.specs.TokenCheck.{singleCheck, pairCheck}
+use Rattle.window.specs.PasswordAt.{PasswordRule}
+use Rattle.window.specs.Asked.{outcomeOf, windowSize}
+use Rattle.window.specs.Sweep.{howMany, sweptTo, countsRight, computedOf}
+use Rattle.window.specs.SweepLaws.{candidates-below}
 
 -- no number passes the test
 abbrev pub Never : (ℕ → Bool) → Type 0
@@ -145,3 +151,40 @@ module _ (k : Track) (clock : ℕ) (size : Size) where
         let s = hit .0 in
         let fresh = and-right (leb (k .next .0) s) _ (hit .1 .1 .passes) in
         rw (hit .1 .0) (both-candidates s fresh .1)
+
+-- ---- how many passwords a check computes, exactly: the candidates up to the accepted step, or all of them; none for another count of digits
+
+pub record CountedExactly (test : ℕ → Bool) (end : ℕ) (right : Bool) (o : Outcome) (computed : ℕ) : Type 0 where
+  pub accepted : right ≡ true → (a : Step) → o ≡ Accepted a → computed ≡ howMany test (a .0 + 1)
+  pub otherwise : right ≡ true → ((a : Step) → o ≡ Accepted a → ⊥) → (n : ℕ) → end ≤ n → computed ≡ howMany test n
+  pub miscounted : right ≡ false → computed ≡ 0
+  pub most : computed ≤ howMany test end
+
+module _ (passwords : PasswordRule) (k : Track) (clock : ℕ) (key challenge : List ℕ) (asked : Asked) where
+  many-past : (n : ℕ) → beyond k clock ≤ n → howMany (candidate k clock (windowSize asked)) (beyond k clock) ≡ howMany (candidate k clock (windowSize asked)) n
+  many-past n l =
+      let w = end-below k clock (windowSize asked) in
+      rw (candidates-below k clock (windowSize asked) n, candidates-below k clock (windowSize asked) (beyond k clock)) (omega arith)
+
+  many-most : (n : ℕ) → howMany (candidate k clock (windowSize asked)) n ≤ howMany (candidate k clock (windowSize asked)) (beyond k clock)
+  many-most n =
+      let w = end-below k clock (windowSize asked) in
+      rw (candidates-below k clock (windowSize asked) n, candidates-below k clock (windowSize asked) (beyond k clock)) (omega arith)
+
+  all-swept : (o : Outcome) → ((a : Step) → o ≡ Accepted a → ⊥) → sweptTo (beyond k clock) o ≡ beyond k clock
+  all-swept (Accepted a) h = absurd (h a refl)
+  all-swept Used h = refl
+  all-swept Wrong h = refl
+
+  pub counted-exactly : CountedExactly (candidate k clock (windowSize asked)) (beyond k clock) (countsRight (k .scheme .digits) asked)
+      (outcomeOf passwords k clock key challenge asked) (computedOf passwords k clock key challenge asked)
+  unfolding computedOf
+  counted-exactly =
+      record {
+        accepted = λ c a e. rw (c, e);
+        otherwise = λ c h n l. rw (c, all-swept (outcomeOf passwords k clock key challenge asked) h) (many-past n l);
+        miscounted = λ c. rw c;
+        most = by-test (countsRight (k .scheme .digits) asked)
+            (λ c. rw c (many-most (sweptTo (beyond k clock) (outcomeOf passwords k clock key challenge asked))))
+            (λ c. rw c (omega arith));
+      }

@@ -4,7 +4,6 @@ use mathlib.Core.Bool.{cond}
 use lib.Dec.{eqb}
 use Rattle.window.specs.declared.Size.{Size}
 use Rattle.window.specs.declared.Track.{Track}
-use Rattle.window.specs.declared.range.Ranges.{Ranges}
 use Rattle.window.specs.Window.{timeToken, stepAt, timeWidth, eventWidth, farthest}
 
 abbrev pub timeFirst : ℕ → ℕ → ℕ → ℕ
@@ -26,11 +25,3 @@ firstStep k clock size =
 unfoldable pub endStep : Track → ℕ → Size → ℕ
 endStep k clock size =
     cond (eqb (k .scheme .kind) timeToken) (timeEnd (stepAt clock (k .period)) (k .offset .0) (timeWidth size)) (eventEnd (k .next .0) (eventWidth size))
-
--- the candidates in two ranges, by the step to accept, which stands `ahead` of the first that matches: a pair is fresh if the step before is
-unfoldable pub rangesOf : Track → ℕ → Size → ℕ → Ranges
-rangesOf k clock size ahead =
-    let first = firstStep k clock size + ahead in
-    let end = endStep k clock size in
-    let next = k .next .0 + ahead in
-    record { first = record { 0 = first }; used = record { 0 = min end next }; fresh = record { 0 = max first next }; end = record { 0 = end } }

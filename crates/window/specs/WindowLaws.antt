@@ -2,14 +2,15 @@
 use Prim.Native.Nat.{ℕ, suc, _+_, _-_, _^_, _≤_, _<_}
 use mathlib.Core.Path.{_≡_, refl, sym}
 use mathlib.Core.Bool.{Bool, true, false, cond, _&&_}
-use native.Mathlib.Nat.{le-trans, max-le, le-min, le-max-left, le-max-right, min-le-left, min-le-right}
+use native.Mathlib.Nat.{le-trans, max-le, le-min, le-max-left, le-max-right, min-le-left, min-le-right, div-le-self}
 use native.Mathlib.Omega.{arith}
 use borrow.Author.Tests.{leb-true, ltb-true, le-leb, lt-ltb}
 use lib.Dec.{eqb, leb, ltb}
 use Rattle.words.specs.BoolLaws.{and-left, and-right, and-both}
 use Rattle.window.specs.declared.Size.{Size}
+use Rattle.window.specs.declared.Size.the-variants.{Small, Medium, Large}
 use Rattle.window.specs.declared.Track.{Track}
-use Rattle.window.specs.Window.{timeToken, stepAt, distance, timeWidth, eventWidth, farthest, timeCandidate, eventCandidate, candidate, beyond}
+use Rattle.window.specs.Window.{timeToken, stepAt, distance, timeWidth, eventWidth, farthest, timeCandidate, eventCandidate, candidate, beyond, Sound}
 use Rattle.window.specs.Range.{timeFirst, timeEnd, eventFirst, eventEnd, firstStep, endStep}
 
 -- two tests agree where each follows from the other
@@ -101,3 +102,33 @@ end-below k clock size = pick (eqb (k .scheme .kind) timeToken)
         ≤ cond b (stepAt clock (k .period) + farthest + 1) (2 ^ 32)
     pick true = omega arith
     pick false = omega arith
+
+-- no step of a window comes near 2^64
+pub first-small : (k : Track) (clock : ℕ) (size : Size) → Sound k clock → firstStep k clock size ≤ 2 ^ 41
+unfolding firstStep
+first-small k clock size good = pick (eqb (k .scheme .kind) timeToken)
+  where
+    pick : (b : Bool) → cond b (timeFirst (stepAt clock (k .period)) (k .offset .0) (timeWidth size)) (eventFirst (k .next .0)) ≤ 2 ^ 41
+    pick true = omega (arith, good .timely, good .within, div-le-self clock (k .period))
+    pick false = omega (arith, good .counted)
+
+-- the largest window is an event token's: the last used step, and 50
+pub candidates-few : (k : Track) (clock : ℕ) (size : Size) → endStep k clock size - firstStep k clock size ≤ 51
+unfolding firstStep endStep
+candidates-few k clock size = pick (eqb (k .scheme .kind) timeToken)
+  where
+    time-narrow : (size : Size) → timeWidth size ≤ 10
+    time-narrow Small = omega arith
+    time-narrow Medium = omega arith
+    time-narrow Large = omega arith
+
+    event-narrow : (size : Size) → eventWidth size ≤ 50
+    event-narrow Small = omega arith
+    event-narrow Medium = omega arith
+    event-narrow Large = omega arith
+
+    pick : (b : Bool)
+        → cond b (timeEnd (stepAt clock (k .period)) (k .offset .0) (timeWidth size)) (eventEnd (k .next .0) (eventWidth size))
+        - cond b (timeFirst (stepAt clock (k .period)) (k .offset .0) (timeWidth size)) (eventFirst (k .next .0)) ≤ 51
+    pick true = omega (arith, time-narrow size)
+    pick false = omega (arith, event-narrow size)

@@ -59,7 +59,7 @@ fn digits_of(cut: u32, modulus: u64) -> u64
     cut as u64 % modulus
 }
 
-// Whether the cuts of two steps in a row are those of the goal.
+// Whether the cuts of the step that hits and of the step to accept are the goal's; of one password both are of one step.
 pub(crate) fn hits(goal: Goal, before: u32, cut: u32) -> bool
     requires { ⌜ 0 < goal .modulus ⌝ }
     ensures { λ r. ⌜ r ≡ hits goal before cut ⌝ }

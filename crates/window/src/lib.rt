@@ -3,10 +3,9 @@ mod arguments;
 mod asked;
 mod checks;
 mod goal;
-mod lanes;
-mod parts;
+mod met;
 mod range;
-mod search;
+mod sweep;
 
 pub use arguments::CLOCKS;
 pub use arguments::in_range;
@@ -14,10 +13,7 @@ pub use asked::Asked;
 pub use checks::check;
 pub use range::COUNTS;
 pub use range::FARTHEST;
-pub use range::Range;
-pub use range::candidates;
 pub use range::step_at;
-pub use search::Found;
 
 // The kind of a time token; an event token's is 1.
 pub const TIME_TOKEN: u8 = 0;
@@ -38,7 +34,7 @@ pub enum Size {
     Large,
 }
 
-// How a token's passwords are made: its kind (0 time, 1 event), its algorithm (3 SM3, 4 SM4) and its count of digits.
+// How a token's passwords are made: its kind (0 time, 1 event), its algorithm, a number that `otp` knows, and its count of digits.
 pub struct Scheme {
     pub kind: u8,
     pub algorithm: u8,
@@ -58,4 +54,10 @@ pub enum Outcome {
     Accepted(Step),
     Used,
     Wrong,
+}
+
+// What a check finds, and how many passwords it computed.
+pub struct Swept {
+    pub outcome: Outcome,
+    pub computed: u64,
 }

@@ -1,4 +1,4 @@
-// The candidates of a token as a range of steps, possibly empty, and its fresh and used ones.
+// The candidates of a token as a range of steps, possibly empty.
 use crate::Seconds;
 use crate::Size;
 use crate::Step;
@@ -7,7 +7,7 @@ use crate::Track;
 ghost use mathlib.Core.Path.{_≡_};
 ghost use Prim.Native.Nat.{_-_, _^_, _≤_, _<_, min, max};
 ghost use Rattle.window.specs.Window.{stepAt, timeWidth, eventWidth, Sound};
-ghost use Rattle.window.specs.Range.{timeFirst, timeEnd, eventFirst, eventEnd, firstStep, endStep, rangesOf};
+ghost use Rattle.window.specs.Range.{timeFirst, timeEnd, eventFirst, eventEnd, firstStep, endStep};
 
 // The farthest that a step may lie from T, and d from 0.
 pub const FARTHEST: u64 = 600;
@@ -58,7 +58,7 @@ fn event_width(size: Size) -> u64
 }
 
 // a less b, or 0.
-fn less(a: u64, b: u64) -> u64
+pub(crate) fn less(a: u64, b: u64) -> u64
     ensures { λ r. ⌜ r ≡ a - b ⌝ }
 {
     if b <= a { a - b } else { 0 }
@@ -107,7 +107,7 @@ fn event_range(next: Step, w: u64) -> Range
 }
 
 // The candidates of a token at a clock reading: `candidates-are-range` of specs/WindowLaws.antt says that these are all.
-pub fn candidates(track: Track, clock: Seconds, size: Size) -> Range
+pub(crate) fn candidates(track: Track, clock: Seconds, size: Size) -> Range
     requires { ⌜ Sound track (clock .0) ⌝ }
     ensures { λ r. ⌜ r .first .0 ≡ firstStep track (clock .0) size ⌝ }
     ensures { λ r. ⌜ r .end .0 ≡ endStep track (clock .0) size ⌝ }
@@ -117,32 +117,4 @@ pub fn candidates(track: Track, clock: Seconds, size: Size) -> Range
         return time_range(t, track.offset.0 as u64, time_width(size));
     }
     event_range(track.next, event_width(size))
-}
-
-// The candidates in two ranges, by the step to accept: used ones from first up to used, fresh ones from fresh up to end.
-pub struct Ranges {
-    pub first: Step,
-    pub used: Step,
-    pub fresh: Step,
-    pub end: Step,
-}
-
-// The step to accept stands `ahead` of the first that matches: 1 for a pair, which is fresh if its first step is.
-pub(crate) fn ranges_of(track: Track, clock: Seconds, size: Size, ahead: u64) -> Ranges
-    requires { ⌜ Sound track (clock .0) ⌝ }
-    requires { ⌜ ahead ≤ 1 ⌝ }
-    ensures { λ r. ⌜ r ≡ rangesOf track (clock .0) size ahead ⌝ }
-{
-    let range = candidates(track, clock, size);
-    let first = range.first.0 + ahead;
-    let end = range.end;
-    let next = track.next.0 + ahead;
-    let used = smaller(end.0, next);
-    let fresh = larger(first, next);
-    Ranges {
-        first: Step(first),
-        used: Step(used),
-        fresh: Step(fresh),
-        end,
-    }
 }

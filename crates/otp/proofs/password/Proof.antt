@@ -1,7 +1,7 @@
 use borrow.Author.Needs.{needs}
 use mathlib.Core.Path.{sym, _∙_}
 use borrow.Author.Tests.{not-true, not-false}
-use Rattle.otp.specs.PasswordLaws.{password-shown, answer-refused, answer-short, answer-stored}
+use Rattle.otp.specs.PasswordLaws.{key-long, key-short, challenge-short, password-shown, answer-refused, answer-short, answer-stored}
 use Rattle.otp.proofs.password.Statement.{statement}
 use Rattle.otp.proofs.password.Tie as tie
 
@@ -21,7 +21,10 @@ returns-2 c =
     answer-short (args .algorithm) (args .key .now) (args .time) (args .count) (args .challenge .now) (args .digits) (args .out .now) (sym (arguments-ok .ensures) ∙ not-false (arguments-ok .result) (c .before .if1 .left)) (c .if2 .taken)
 
 truncated-once-requires : tie.Need-truncated-once-requires
-truncated-once-requires c κs = (sym (c .before .before .arguments-ok .ensures) ∙ not-false (c .before .before .arguments-ok .result) (c .before .if1 .left))
+truncated-once-requires c κs =
+    let a = c .before .before .before .before .before .before .args in
+    let ok = sym (c .before .before .arguments-ok .ensures) ∙ not-false (c .before .before .arguments-ok .result) (c .before .if1 .left) in
+    (key-long _ _ _ _ _ (a .digits) ok, (key-short _ _ _ _ _ (a .digits) ok, challenge-short _ _ _ _ _ (a .digits) ok))
 
 put-decimals-requires : tie.Need-put-decimals-requires
 put-decimals-requires c κs = search needs

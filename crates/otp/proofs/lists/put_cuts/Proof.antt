@@ -1,50 +1,79 @@
+use Prim.Native.Nat.{_-_}
+use mathlib.Core.Path.{_≡_, refl}
 use borrow.Author.Needs.{needs}
-use mathlib.Core.Path.{ap, _∙_}
-use mathlib.Core.List.{[]}
 use native.Mathlib.Omega.{arith}
 use lib.ListN.{length}
-use Rattle.otp.specs.ChainLaws.{length-prepared}
-use Rattle.otp.specs.StepCuts.{hashedCut, cutBy}
-use Rattle.otp.specs.CutLists.{stepCut}
-use Rattle.otp.specs.CutListsLaws.{keyed-most, width-hashed, width-keyed, hashed-list, keyed-list, listed}
+use Rattle.otp.specs.CutLists.{stepCut, Put}
+use Rattle.otp.specs.CutListsLaws.{length-left, put-none, put-length, put-all, put-more}
 use Rattle.otp.proofs.lists.put_cuts.Statement.{statement}
 use Rattle.otp.proofs.lists.put_cuts.Tie as tie
 
-put-hashed-requires : tie.Need-put-hashed-requires
-put-hashed-requires c κs = search needs
+abbrev Inv-loop : tie.InvT-loop
+Inv-loop maker key ready challenge s out₀ i₀ out i = (length out ≡ length out₀) × Put (stepCut (maker .algorithm) key challenge (maker .timed)) i s out₀ out
 
-same-length : tie.Need-same-length
+abbrev μ-loop : tie.MeasureT-loop
+μ-loop maker key ready challenge s out₀ i₀ out i = length out₀ - i
+
+loop-holds : tie.Need-loop-holds Inv-loop μ-loop
+loop-holds c = (refl, put-none _ _ _)
+
+add-put-some : tie.Need-add-put-some Inv-loop μ-loop
+add-put-some c = search needs
+
+mul-put-some : tie.Need-mul-put-some Inv-loop μ-loop
+mul-put-some c = search needs
+
+sub-put-some : tie.Need-sub-put-some Inv-loop μ-loop
+sub-put-some c = search needs
+
+part-put-some-start : tie.Need-part-put-some-start Inv-loop μ-loop
+part-put-some-start c = search needs
+
+part-put-some-end : tie.Need-part-put-some-end Inv-loop μ-loop
+part-put-some-end c = search needs
+
+put-some-requires : tie.Need-put-some-requires Inv-loop μ-loop
+put-some-requires c κs =
+    let pre = c .before .before .before .before .before .before .before .pre in
+    let loop = c .before .before .loop in
+    (pre .0, (pre .1 .0, (pre .1 .1 .0, (omega arith, rw (length-left (loop .i) (loop .out)) (omega arith)))))
+
+add-i : tie.Need-add-i Inv-loop μ-loop
+add-i c =
+    let loop = c .before .before .before .before .before .loop in
+    let l = length-left (loop .i) (loop .out) in
+    search needs
+
+loop-less : tie.Need-loop-less Inv-loop μ-loop
+loop-less c =
+    let loop = c .before .before .before .before .before .loop in
+    let l = length-left (loop .i) (loop .out) in
+    search needs
+
+loop-again : tie.Need-loop-again Inv-loop μ-loop
+loop-again c = let more = put-more _ _ (c .before .before .before .before .before .loop .inv .1) (c .before .before .put-some .ensures .1) in (put-length _ _ more, more)
+
+same-length : tie.Need-same-length Inv-loop μ-loop
 same-length c = search needs
 
-returns : tie.Need-returns
-returns c =
-    let args = c .before .before .before .before .before .before .before .before .args in
-    let if1 = c .before .before .before .before .if1 in
-    let a = args in
-    let hashed = if1 .taken in
-    let made = c .before .before .put-hashed .ensures in
-    listed (a .s) (hashedCut (a .key .now) (a .timed)) (stepCut (a .algorithm) (a .key .now) [] (a .timed)) _ (width-hashed (a .algorithm) (a .left) hashed) (made .0) (hashed-list (a .algorithm) (a .key .now) (a .timed) _ (a .s) hashed) (made .1)
-
-put-keyed-requires : tie.Need-put-keyed-requires
-put-keyed-requires c κs =
-    let start = c .before .before .before .before .before in
-    let keys = start .pre .1 .0 (c .before .if1 .left) in
-    (ap length keys ∙ length-prepared (start .args .key .now), (start .pre .1 .1 .0, start .pre .1 .1 .1))
-
-same-length-2 : tie.Need-same-length-2
-same-length-2 c = search needs
-
-returns-2 : tie.Need-returns-2
-returns-2 c =
-    let start = c .before .before .before .before .before .before .before .before in
-    let a = start .args in
-    let keyed = c .before .before .before .before .if1 .left in
-    let made = c .before .before .put-keyed .ensures in
-    let small = keyed-most (a .left) .1 in
-    listed (a .s) (cutBy (a .keys .now) (a .timed)) (stepCut (a .algorithm) (a .key .now) [] (a .timed)) _ (width-keyed (a .algorithm) (a .left) keyed) (made .0)
-    (keyed-list (a .algorithm) (a .key .now) (a .timed) _ (a .s) keyed (start .pre .1 .0 keyed) (omega (arith, small, start .pre .1 .1 .0))) (made .1)
+returns : tie.Need-returns Inv-loop μ-loop
+returns c = put-all _ _ (omega arith) (c .before .loop .inv .1)
 
 pub put-cuts-spec : {M : Type 1} → statement M
 put-cuts-spec =
     tie.close
-    (tie.spec put-hashed-requires same-length returns put-keyed-requires same-length-2 returns-2)
+    (tie.spec
+    Inv-loop
+    μ-loop
+    loop-holds
+    add-put-some
+    mul-put-some
+    sub-put-some
+    part-put-some-start
+    part-put-some-end
+    put-some-requires
+    add-i
+    loop-less
+    loop-again
+    same-length
+    returns)

@@ -1,25 +1,7 @@
 use borrow.Author.Needs.{needs}
-use mathlib.Core.Path.{refl}
-use native.Mathlib.Omega.{arith}
-use Rattle.otp.specs.StepCuts.{hashedCut}
-use Rattle.otp.specs.CutListsLaws.{hashed-one, hashed-four, one-put, list-put, listed}
+use Rattle.otp.specs.CutListsLaws.{cut-hashed, put-one, hashed-put, four-left}
 use Rattle.otp.proofs.lists.put_hashed.Statement.{statement}
 use Rattle.otp.proofs.lists.put_hashed.Tie as tie
-
-hashed-cut-requires : tie.Need-hashed-cut-requires
-hashed-cut-requires c κs = search needs
-
-slice-write-cuts : tie.Need-slice-write-cuts
-slice-write-cuts c = search needs
-
-same-length : tie.Need-same-length
-same-length c = search needs
-
-returns : tie.Need-returns
-returns c =
-    let a = c .before .before .before .before .args in
-    let cutAt = hashedCut (a .key .now) (a .timed) in
-    listed (a .s) cutAt cutAt _ (hashed-one (a .left) (c .before .if1 .taken)) refl refl (one-put cutAt (a .s) (a .cuts .now) (omega (arith, c .before .before .before .before .pre .1 .1)) (c .hashed-cut .ensures))
 
 hashed-cuts-requires : tie.Need-hashed-cuts-requires
 hashed-cuts-requires c κs = search needs
@@ -28,30 +10,53 @@ slice-aggregate-copy-words : tie.Need-slice-aggregate-copy-words
 slice-aggregate-copy-words c = search needs
 
 copy-words-requires : tie.Need-copy-words-requires
-copy-words-requires c κs = search needs
+copy-words-requires c κs =
+    let a = c .before .before .before .before .before .before .before .args in
+    let left = four-left (a .challenge .now) (a .out .now) (c .before .before .before .if1 .taken) in
+    search needs
+
+same-length : tie.Need-same-length
+same-length c = search needs
+
+returns : tie.Need-returns
+returns c =
+    let start = c .before .before .before .before .before .before .before .before .before .before in
+    let left = four-left (start .args .challenge .now) (start .args .out .now) (c .before .before .before .before .before .before .if1 .taken) in
+    let made = c .before .before .before .before .before .hashed-cuts .ensures in
+    (search needs, hashed-put _ _ _ _ _ _ _ (left .0) (left .1) (c .before .before .copy-words .ensures) (start .pre .0) made)
+
+time-at-requires : tie.Need-time-at-requires
+time-at-requires c κs = search needs
+
+count-at-requires : tie.Need-count-at-requires
+count-at-requires c κs = search needs
+
+hashed-requires : tie.Need-hashed-requires
+hashed-requires c κs = search needs
+
+slice-write-out : tie.Need-slice-write-out
+slice-write-out c = search needs
 
 same-length-2 : tie.Need-same-length-2
 same-length-2 c = search needs
 
 returns-2 : tie.Need-returns-2
 returns-2 c =
-    let args = c .before .before .before .before .before .before .before .before .before .args in
-    let if1 = c .before .before .before .before .before .before .if1 in
-    let hashed-cuts = c .before .before .before .before .before .hashed-cuts in
-    let a = args in
-    let cutAt = hashedCut (a .key .now) (a .timed) in
-    listed (a .s) cutAt cutAt _ (hashed-four (a .left) (if1 .left)) refl refl (list-put cutAt (a .s) 4 _ (hashed-cuts .ensures) (c .before .before .copy-words .ensures))
+    let pre = c .before .before .before .before .before .before .before .pre in
+    (search needs, put-one _ _ _ (pre .1 .1 .1 .1) (cut-hashed _ _ _ _ _ (c .before .before .time-at .ensures) (c .before .count-at .ensures) (pre .0) (c .hashed .ensures)))
 
 pub put-hashed-spec : {M : Type 1} → statement M
 put-hashed-spec =
     tie.close
     (tie.spec
-    hashed-cut-requires
-    slice-write-cuts
-    same-length
-    returns
     hashed-cuts-requires
     slice-aggregate-copy-words
     copy-words-requires
+    same-length
+    returns
+    time-at-requires
+    count-at-requires
+    hashed-requires
+    slice-write-out
     same-length-2
     returns-2)

@@ -1,12 +1,32 @@
 use borrow.Author.Needs.{needs}
-use mathlib.Core.Path.{refl}
-use Rattle.otp.specs.StepCuts.{cutBy}
-use Rattle.otp.specs.CutListsLaws.{keyed-three, keyed-five, list-put, listed}
+use mathlib.Core.Path.{_∙_}
+use native.Mathlib.Omega.{arith}
+use Rattle.otp.specs.CutListsLaws.{cut-chained, keyed-cut-is, put-one, keyed-put}
 use Rattle.otp.proofs.lists.put_keyed.Statement.{statement}
 use Rattle.otp.proofs.lists.put_keyed.Tie as tie
 
-few-cuts-requires : tie.Need-few-cuts-requires
-few-cuts-requires c κs = search needs
+time-at-requires : tie.Need-time-at-requires
+time-at-requires c κs = search needs
+
+count-at-requires : tie.Need-count-at-requires
+count-at-requires c κs = search needs
+
+ciphered-requires : tie.Need-ciphered-requires
+ciphered-requires c κs = search needs
+
+slice-write-out : tie.Need-slice-write-out
+slice-write-out c = search needs
+
+same-length : tie.Need-same-length
+same-length c = search needs
+
+returns : tie.Need-returns
+returns c =
+    let pre = c .before .before .before .before .before .before .before .before .pre in
+    (search needs, put-one _ _ _ (pre .1 .1 .1 .1 .1) (cut-chained _ _ _ _ _ (c .before .before .time-at .ensures) (c .before .count-at .ensures) (pre .0) (c .ciphered .ensures)))
+
+next-cuts-requires : tie.Need-next-cuts-requires
+next-cuts-requires c κs = search needs
 
 slice-aggregate-copy-words : tie.Need-slice-aggregate-copy-words
 slice-aggregate-copy-words c = search needs
@@ -14,20 +34,19 @@ slice-aggregate-copy-words c = search needs
 copy-words-requires : tie.Need-copy-words-requires
 copy-words-requires c κs = search needs
 
-same-length : tie.Need-same-length
-same-length c = search needs
+same-length-2 : tie.Need-same-length-2
+same-length-2 c = search needs
 
-returns : tie.Need-returns
-returns c =
-    let args = c .before .before .before .before .before .before .before .before .before .args in
-    let if1 = c .before .before .before .before .before .before .if1 in
-    let few-cuts = c .before .before .before .before .before .few-cuts in
-    let a = args in
-    let cutAt = cutBy (a .keys .now) (a .timed) in
-    listed (a .s) cutAt cutAt _ (keyed-three (a .left) (if1 .taken)) refl refl (list-put cutAt (a .s) 3 _ (few-cuts .ensures) (c .before .before .copy-words .ensures))
+returns-2 : tie.Need-returns-2
+returns-2 c =
+    let pre = c .before .before .before .before .before .before .before .before .before .before .before .before .pre in
+    let if1 = c .before .before .before .before .before .before .before .if1 in
+    let if2 = c .before .before .before .before .before .before .if2 in
+    let made = c .before .before .before .before .before .next-cuts .ensures in
+    (search needs, keyed-put _ _ _ _ _ _ _ (if1 .left) (if2 .taken) (c .before .before .copy-words .ensures) (pre .0) (pre .1 .0) (omega arith) made)
 
-next-cuts-requires : tie.Need-next-cuts-requires
-next-cuts-requires c κs = search needs
+few-cuts-requires : tie.Need-few-cuts-requires
+few-cuts-requires c κs = search needs
 
 slice-aggregate-copy-words-2 : tie.Need-slice-aggregate-copy-words-2
 slice-aggregate-copy-words-2 c = search needs
@@ -35,29 +54,52 @@ slice-aggregate-copy-words-2 c = search needs
 copy-words-requires-2 : tie.Need-copy-words-requires-2
 copy-words-requires-2 c κs = search needs
 
-same-length-2 : tie.Need-same-length-2
-same-length-2 c = search needs
+same-length-3 : tie.Need-same-length-3
+same-length-3 c = search needs
 
-returns-2 : tie.Need-returns-2
-returns-2 c =
-    let args = c .before .before .before .before .before .before .before .before .before .args in
-    let if1 = c .before .before .before .before .before .before .if1 in
-    let next-cuts = c .before .before .before .before .before .next-cuts in
-    let a = args in
-    let cutAt = cutBy (a .keys .now) (a .timed) in
-    listed (a .s) cutAt cutAt _ (keyed-five (a .left) (if1 .left)) refl refl (list-put cutAt (a .s) 5 _ (next-cuts .ensures) (c .before .before .copy-words2 .ensures))
+returns-3 : tie.Need-returns-3
+returns-3 c =
+    let pre = c .before .before .before .before .before .before .before .before .before .before .before .before .before .pre in
+    let if1 = c .before .before .before .before .before .before .before .before .if1 in
+    let if3 = c .before .before .before .before .before .before .if3 in
+    let made = c .before .before .before .before .before .few-cuts .ensures in
+    (search needs, keyed-put _ _ _ _ _ _ _ (if1 .left) (if3 .taken) (c .before .before .copy-words2 .ensures) (pre .0) (pre .1 .0) (omega arith) made)
+
+next-cut-requires : tie.Need-next-cut-requires
+next-cut-requires c κs = search needs
+
+slice-write-out-2 : tie.Need-slice-write-out-2
+slice-write-out-2 c = search needs
+
+same-length-4 : tie.Need-same-length-4
+same-length-4 c = search needs
+
+returns-4 : tie.Need-returns-4
+returns-4 c =
+    let pre = c .before .before .before .before .before .before .before .before .pre in
+    (search needs, put-one _ _ _ (pre .1 .1 .1 .1 .1) (c .next-cut .ensures ∙ keyed-cut-is _ _ _ _ _ (c .before .before .before .if1 .left) (pre .0) (pre .1 .0) (omega arith)))
 
 pub put-keyed-spec : {M : Type 1} → statement M
 put-keyed-spec =
     tie.close
     (tie.spec
-    few-cuts-requires
-    slice-aggregate-copy-words
-    copy-words-requires
+    time-at-requires
+    count-at-requires
+    ciphered-requires
+    slice-write-out
     same-length
     returns
     next-cuts-requires
+    slice-aggregate-copy-words
+    copy-words-requires
+    same-length-2
+    returns-2
+    few-cuts-requires
     slice-aggregate-copy-words-2
     copy-words-requires-2
-    same-length-2
-    returns-2)
+    same-length-3
+    returns-3
+    next-cut-requires
+    slice-write-out-2
+    same-length-4
+    returns-4)

@@ -75,7 +75,7 @@ judging-requires c κs =
     let way = c .before .before .before .before .before .way in
     let e : waited .result .track ≡ args .row .track = ap (λ (x : Row). x .track) (waited .ensures) ∙ waited-track (args .row) (args .clock .0) in
     let good : Sound (waited .result .track) (args .clock .0) = rw e (given .0) in
-    (good, checked-near passwordAt (waited .result .track) (args .clock .0) (args .key .now) (args .challenge .now) (way .given .0 .0) (c .check .result) good (c .check .ensures))
+    (good, checked-near passwordAt (waited .result .track) (args .clock .0) (args .key .now) (args .challenge .now) (way .given .0 .0) (c .check .result .outcome) good (c .check .ensures .0))
 
 returns-3 : tie.Need-returns-3
 returns-3 c =
@@ -104,7 +104,7 @@ returns-5 c =
     let way = c .before .before .before .before .before .before .way in
     let if2 = c .before .before .if2 in
     let check = c .before .check in
-    decided-checked _ _ _ _ _ (line-of .ensures) (waited .ensures) (allowed .ensures) (if1 .left) refl (way .given .1) (if2 .left) (check .ensures) (c .judging .ensures)
+    decided-checked _ _ _ _ _ (line-of .ensures) (waited .ensures) (allowed .ensures) (if1 .left) refl (way .given .1) (if2 .left) (check .ensures .0) (c .judging .ensures)
 
 pub decide-spec : {M : Type 1} → statement M
 decide-spec =

@@ -1,0 +1,30 @@
+use Prim.Native.Nat.{ℕ, _+_}
+use mathlib.Core.Path.{ap}
+use borrow.Author.Tests.{not-true, not-false}
+use borrow.Author.Needs.{needs}
+use Rattle.window.proofs.met.met_by.Statement.{statement}
+use Rattle.window.proofs.met.met_by.Tie as tie
+
+returns : tie.Need-returns
+returns c = rw (not-true (c .before .args .hit) (c .if1 .taken))
+
+returns-2 : tie.Need-returns-2
+returns-2 c =
+    let args = c .before .before .args in
+    rw (not-false (args .hit) (c .before .if1 .left), not-true (args .late) (c .if2 .taken))
+
+add-t6 : tie.Need-add-t6
+add-t6 c = search needs
+
+first-place-requires : tie.Need-first-place-requires
+first-place-requires c κs = search needs
+
+returns-3 : tie.Need-returns-3
+returns-3 c =
+    let args = c .before .before .before .before .args in
+    let if1 = c .before .before .before .if1 in
+    let if2 = c .before .before .if2 in
+    rw (not-false (args .hit) (if1 .left), not-false (args .late) (if2 .left)) (ap (λ (n : ℕ). record { used = args .met .used; fresh = args .met .fresh + 1; at = n }) (c .first-place .ensures))
+
+pub met-by-spec : {M : Type 1} → statement M
+met-by-spec = tie.close (tie.spec returns returns-2 add-t6 first-place-requires returns-3)

@@ -1,0 +1,68 @@
+// What a sweep of the window has met on its way up.
+use crate::Outcome;
+use crate::Step;
+ghost use mathlib.Core.Path.{_≡_};
+ghost use mathlib.Core.Bool.{cond};
+ghost use lib.Dec.{eqb};
+ghost use Prim.Native.Nat.{_^_, _≤_, _<_};
+ghost use Rattle.window.specs.Sweep.{metBy, metOutcome};
+
+// Whether a used step hit, how many fresh ones did, and the place of the first of those.
+pub struct Met {
+    pub used: bool,
+    pub fresh: u64,
+    pub at: u64,
+}
+
+// Nothing so far.
+pub(crate) const UNMET: Met = Met {
+    used: false,
+    fresh: 0,
+    at: 0,
+};
+
+// The first place of a fresh hit, where i is the last.
+fn first_place(met: Met, i: u64) -> u64
+    ensures { λ r. ⌜ r ≡ cond (eqb (met .fresh) 0) i (met .at) ⌝ }
+{
+    if met.fresh == 0 { i } else { met.at }
+}
+
+// With place i looked at.
+pub(crate) fn met_by(met: Met, hit: bool, late: bool, i: u64) -> Met
+    requires { ⌜ met .fresh < 2 ^ 63 ⌝ }
+    ensures { λ r. ⌜ r ≡ metBy met hit late i ⌝ }
+{
+    if !hit {
+        return met;
+    }
+    if !late {
+        return Met {
+            used: true,
+            fresh: met.fresh,
+            at: met.at,
+        };
+    }
+    Met {
+        used: met.used,
+        fresh: met.fresh + 1,
+        at: first_place(met, i),
+    }
+}
+
+// The place of the accepted step is `ahead` of the hit's.
+pub(crate) fn met_outcome(first: u64, ahead: u64, met: Met) -> Outcome
+    requires { ⌜ first ≤ 2 ^ 41 ⌝ }
+    requires { ⌜ met .at ≤ 2 ^ 41 ⌝ }
+    requires { ⌜ ahead ≤ 1 ⌝ }
+    ensures { λ r. ⌜ r ≡ metOutcome first ahead met ⌝ }
+{
+    if 0 < met.fresh {
+        return Outcome::Accepted(Step(first + met.at + ahead));
+    }
+    if met.used {
+        Outcome::Used
+    } else {
+        Outcome::Wrong
+    }
+}
