@@ -34,8 +34,8 @@ extern "C" {
 #endif
 
 /* The version of this header; as a number 0xMMmmpp, to be compared. */
-#define DL_VERSION        "0.2.0"
-#define DL_VERSION_NUMBER 0x000200
+#define DL_VERSION        "0.3.0"
+#define DL_VERSION_NUMBER 0x000300
 
 /* The version that the program was compiled with, DL_VERSION. */
 static inline const char *dl_version(void)
@@ -235,6 +235,10 @@ uint16_t dl_password(uint8_t algorithm, const uint8_t *key, size_t key_len,
  * DL_DONE the caller has to set `next` to the accepted step plus 1 and, for a
  * time token, `offset` to that step minus now / period plus 600.
  *
+ * The search goes up the steps of the window once and ends at the accepted
+ * one. It computes the password of each step that it comes to, once, and of no
+ * other.
+ *
  *   kind       DL_TIME_TOKEN or DL_EVENT_TOKEN
  *   algorithm  DL_ALGORITHM_SM3 or DL_ALGORITHM_SM4
  *   digits     of the token's passwords, 6 to 10
@@ -251,16 +255,21 @@ uint16_t dl_password(uint8_t algorithm, const uint8_t *key, size_t key_len,
  *              challenge absent, as it always is for two passwords
  *   presented  the password typed in; presented_len is 6 to 10 and each byte
  *              an ASCII digit. A number of digits that is not `digits` is in
- *              range, and wrong
+ *              range, and wrong without a search
  *   following  the password of the step after it, likewise; following_len is
  *              0 where only one password is checked
  *   step       takes the accepted step in its first element: the smallest
  *              unused one that matches, or the one after it for two
  *              passwords; step_len is 1 or more
+ *   computed   takes in its first element how many passwords were computed:
+ *              those of the window's steps up to the accepted one, or of all
+ *              of them if none is accepted; 0 if a password has not `digits`
+ *              digits; computed_len is 1 or more
  *
  * Returns DL_BAD_ARGUMENT if an argument is out of its range; DL_DONE if an
  * unused step of the window matches, DL_USED if only used ones do, DL_WRONG if
- * none does. Only DL_DONE writes.
+ * none does. Only DL_DONE writes `step`; every code but DL_BAD_ARGUMENT writes
+ * `computed`.
  */
 uint16_t dl_check(uint8_t kind, uint8_t algorithm, uint8_t digits,
                   uint8_t period, uint64_t next, uint16_t offset,
@@ -269,7 +278,8 @@ uint16_t dl_check(uint8_t kind, uint8_t algorithm, uint8_t digits,
                   const uint8_t *challenge, size_t challenge_len,
                   const uint8_t *presented, size_t presented_len,
                   const uint8_t *following, size_t following_len,
-                  uint64_t *step, size_t step_len);
+                  uint64_t *step, size_t step_len,
+                  uint64_t *computed, size_t computed_len);
 
 /*
  * The desk: tokens in a table, each known by its serial.

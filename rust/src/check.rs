@@ -1,6 +1,6 @@
 //! The check of a token whose numbers the caller keeps himself, without a table.
 use crate::refusal::DONE;
-use crate::{ffi, Algorithm, Answer, BadArgument, Kind, Offset, Refusal, Seconds, Step};
+use crate::{ffi, Algorithm, Answer, Kind, Offset, Refusal, Seconds, Step};
 
 /// How far from its expected step a password is looked for.
 #[derive(Clone, Copy, Debug, PartialEq, Eq, Hash)]
@@ -31,8 +31,20 @@ pub struct Track<'a> {
     pub offset: Offset,
 }
 
+/// What a check gives: the accepted step or the refusal, and what the search cost.
+#[derive(Clone, Copy, Debug, PartialEq, Eq, Hash)]
+pub struct Checked {
+    /// The accepted step, or why there is none.
+    pub answer: Answer<Step>,
+    /// How many passwords were computed: those of the window's steps up to the accepted one, or of all of them if none is accepted. 0
+    /// if a password has another number of digits than the token's, and if the check is refused as
+    /// [`BadArgument`](Refusal::BadArgument).
+    pub computed: u64,
+}
+
 impl Track<'_> {
-    /// The accepted step of a password or, with `following`, the second step of two passwords in a row.
+    /// The accepted step of a password or, with `following`, the second step of two passwords in a row; and how many passwords were
+    /// computed. The search goes up the steps of the window once, and ends at the accepted one.
     ///
     /// It changes nothing: the caller sets `next` to that step plus 1 and, for a time token, `offset` to that step minus the clock's.
     /// A challenge has 4 to 32 printable ASCII bytes and no space, and two passwords have none. Empty texts are none, but a password
@@ -53,11 +65,15 @@ impl Track<'_> {
     ///     offset: Offset(0),
     /// };
     /// let shown = password(track.algorithm, track.key, Factor::Count(6), None, track.digits)?;
-    /// let step = track.check(Seconds(0), Window::Small, None, shown, None)?;
+    /// let checked = track.check(Seconds(0), Window::Small, None, shown, None);
+    /// let step = checked.answer?;
     /// assert_eq!(step, Step(6));
+    /// assert_eq!(checked.computed, 3); // the window begins with the last used step: 4, 5, 6
     ///
     /// track.next = Step(step.0 + 1);
-    /// assert_eq!(track.check(Seconds(0), Window::Small, None, shown, None), Err(Refusal::Used));
+    /// let again = track.check(Seconds(0), Window::Small, None, shown, None);
+    /// assert_eq!(again.answer, Err(Refusal::Used));
+    /// assert_eq!(again.computed, 11); // 6 to 16, the whole window
     /// # Ok::<(), Refusal>(())
     /// ```
     pub fn check(
@@ -67,11 +83,12 @@ impl Track<'_> {
         challenge: Option<&[u8]>,
         password: impl AsRef<[u8]>,
         following: Option<&[u8]>,
-    ) -> Answer<Step> {
-        let offset = u16::try_from(i32::from(self.offset.0) + 600).map_err(|_| BadArgument)?;
+    ) -> Checked {
+        // one that has no place in 16 bits is out of range, as the largest number there is
+        let offset = u16::try_from(i32::from(self.offset.0) + 600).unwrap_or(u16::MAX);
         let texts = [challenge.unwrap_or_default(), password.as_ref(), following.unwrap_or_default()];
-        let mut step = [0];
-        let code = ffi::check(self, offset, now.0, window as u8, texts, &mut step);
-        Refusal::unless(code, DONE).map(|()| Step(step[0]))
+        let (mut step, mut computed) = ([0], [0]);
+        let code = ffi::check(self, offset, now.0, window as u8, texts, &mut step, &mut computed);
+        Checked { answer: Refusal::unless(code, DONE).map(|()| Step(step[0])), computed: computed[0] }
     }
 }

@@ -38,7 +38,8 @@ extern "C" {
                 challenge: *const u8, challenge_len: usize,
                 presented: *const u8, presented_len: usize,
                 following: *const u8, following_len: usize,
-                step: *mut u64, step_len: usize) -> u16;
+                step: *mut u64, step_len: usize,
+                computed: *mut u64, computed_len: usize) -> u16;
 
     fn dl_load(table: *mut u8, table_len: usize, serial: u64,
                kind: u8, algorithm: u8, digits: u8,
@@ -124,16 +125,18 @@ pub fn password(
 }
 
 #[rustfmt::skip]
-pub fn check(track: &Track<'_>, offset: u16, now: u64, size: u8, texts: [&[u8]; 3], step: &mut [u64]) -> u16 {
+pub fn check(
+    track: &Track<'_>, offset: u16, now: u64, size: u8, texts: [&[u8]; 3], step: &mut [u64], computed: &mut [u64],
+) -> u16 {
     let (kind, period) = track.kind.numbers();
     let [challenge, presented, following] = texts.map(<[u8]>::as_ptr);
     let [challenge_len, presented_len, following_len] = texts.map(<[u8]>::len);
-    // SAFETY: all buffers are slices, and only the `&mut` one is written.
+    // SAFETY: all buffers are slices, and only the `&mut` ones are written.
     unsafe {
         dl_check(
             kind, track.algorithm as u8, track.digits, period, track.next.0, offset, now, size,
             track.key.as_ptr(), track.key.len(), challenge, challenge_len, presented, presented_len, following, following_len,
-            step.as_mut_ptr(), step.len(),
+            step.as_mut_ptr(), step.len(), computed.as_mut_ptr(), computed.len(),
         )
     }
 }

@@ -55,7 +55,7 @@ mod refusal;
 mod units;
 
 pub use answer::{Accepted, Answer, Call, State, Status};
-pub use check::{Track, Window};
+pub use check::{Checked, Track, Window};
 pub use cipher::{sm4, Sm4Keys};
 pub use desk::{Desk, Kind, Particulars, SyncWindow, MOST_ROWS, ROW_BYTES};
 pub use hash::sm3;

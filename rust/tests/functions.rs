@@ -1,6 +1,7 @@
 //! The hash, the cipher, the password and the check: the standards' examples, and what is out of range.
 use dykeladder::{
-    password, sm3, sm4, Algorithm, BadArgument, Factor, Kind, Offset, Refusal, Seconds, Sm4Keys, Step, Track, Window,
+    password, sm3, sm4, Algorithm, BadArgument, Checked, Factor, Kind, Offset, Password, Refusal, Seconds, Sm4Keys, Step, Track,
+    Window,
 };
 
 const KEY: &[u8] = b"a key of 20 letters.";
@@ -66,22 +67,61 @@ fn password_out_of_range() {
     assert_eq!(BadArgument.to_string(), "bad argument (9005)");
 }
 
-// At clock 1060 the step is 35, and with offset 2 the small window has 35 to 39.
+// At clock 1060 the step is 35, and with offset 2 the small window has 35 to 39. The step before 36 is used.
+const CLOCK: Seconds = Seconds(1060);
+const AHEAD: Track<'_> =
+    Track { kind: Kind::Time { period: 30 }, algorithm: Algorithm::Sm3, digits: 6, key: KEY, next: Step(36), offset: Offset(2) };
+
+fn shown(step: u64) -> Password {
+    password(AHEAD.algorithm, AHEAD.key, Factor::Time(Step(step)), None, AHEAD.digits).unwrap()
+}
+
+fn accepted(step: u64, computed: u64) -> Checked {
+    Checked { answer: Ok(Step(step)), computed }
+}
+
+fn refused(refusal: Refusal, computed: u64) -> Checked {
+    Checked { answer: Err(refusal), computed }
+}
+
 #[test]
 fn check_of_a_time_token() {
-    let kind = Kind::Time { period: 30 };
-    let track = Track { kind, algorithm: Algorithm::Sm3, digits: 6, key: KEY, next: Step(36), offset: Offset(2) };
-    let shown = |step| password(track.algorithm, track.key, Factor::Time(Step(step)), None, track.digits).unwrap();
-    let check = |window, step| track.check(Seconds(1060), window, None, shown(step), None);
-    assert_eq!(check(Window::Small, 34), Err(Refusal::Wrong));
-    assert_eq!(check(Window::Small, 35), Err(Refusal::Used));
-    assert_eq!(check(Window::Small, 39), Ok(Step(39)));
-    assert_eq!(check(Window::Small, 40), Err(Refusal::Wrong));
-    assert_eq!(check(Window::Medium, 42), Ok(Step(42)));
-    assert_eq!(check(Window::Large, 47), Ok(Step(47)));
-    assert_eq!(check(Window::Large, 48), Err(Refusal::Wrong));
-    let pair = track.check(Seconds(1060), Window::Small, None, shown(38), Some(shown(39).as_ref()));
-    assert_eq!(pair, Ok(Step(39)));
+    let check = |window, step| AHEAD.check(CLOCK, window, None, shown(step), None);
+    assert_eq!(check(Window::Small, 34), refused(Refusal::Wrong, 5));
+    assert_eq!(check(Window::Small, 35), refused(Refusal::Used, 5));
+    assert_eq!(check(Window::Small, 36), accepted(36, 2));
+    assert_eq!(check(Window::Small, 39), accepted(39, 5));
+    assert_eq!(check(Window::Small, 40), refused(Refusal::Wrong, 5));
+    assert_eq!(check(Window::Medium, 42), accepted(42, 11));
+    assert_eq!(check(Window::Large, 47), accepted(47, 21));
+    assert_eq!(check(Window::Large, 48), refused(Refusal::Wrong, 21));
+}
+
+#[test]
+fn check_of_a_pair() {
+    let check = |window, step, following| AHEAD.check(CLOCK, window, None, shown(step), Some(shown(following).as_ref()));
+    assert_eq!(check(Window::Small, 35, 36), refused(Refusal::Used, 5));
+    assert_eq!(check(Window::Small, 36, 37), accepted(37, 3));
+    assert_eq!(check(Window::Small, 38, 39), accepted(39, 5));
+    assert_eq!(check(Window::Small, 39, 40), refused(Refusal::Wrong, 5));
+    assert_eq!(check(Window::Medium, 38, 39), accepted(39, 8));
+    assert_eq!(check(Window::Large, 38, 40), refused(Refusal::Wrong, 21));
+}
+
+#[test]
+fn check_of_other_numbers_of_digits_is_no_search() {
+    let check = |password: &str, following: &str| AHEAD.check(CLOCK, Window::Small, None, password, Some(following.as_bytes()));
+    assert_eq!(check("1234567", ""), refused(Refusal::Wrong, 0));
+    assert_eq!(check("1234567", "123456"), refused(Refusal::Wrong, 0));
+    assert_eq!(check("123456", "1234567"), refused(Refusal::Wrong, 0));
+    assert_eq!(check("123456", "123456"), refused(Refusal::Wrong, 5));
+}
+
+// Those below 0 are none.
+#[test]
+fn check_without_a_candidate() {
+    let track = Track { offset: Offset(-600), ..AHEAD };
+    assert_eq!(track.check(CLOCK, Window::Large, None, "123456", None), refused(Refusal::Wrong, 0));
 }
 
 const EVENT: Track<'_> =
@@ -90,7 +130,11 @@ const TIME: Track<'_> = Track { kind: Kind::Time { period: 30 }, ..EVENT };
 
 fn check_all(tracks: &[Track<'_>], refusal: Refusal) {
     for (i, track) in tracks.iter().enumerate() {
-        assert_eq!(track.check(Seconds(0), Window::Small, None, "123456", None), Err(refusal), "track {i}");
+        let checked = track.check(Seconds(0), Window::Small, None, "123456", None);
+        assert_eq!(checked.answer, Err(refusal), "track {i}");
+        if refusal == Refusal::BadArgument {
+            assert_eq!(checked.computed, 0, "track {i}");
+        }
     }
 }
 
@@ -121,7 +165,8 @@ fn check_of_a_time_token_out_of_range() {
         &[period(0), period(61), next((1 << 40) + 601), offset(-601), offset(601), offset(i16::MAX), offset(i16::MIN)],
         Refusal::BadArgument,
     );
-    assert_eq!(TIME.check(Seconds(1 << 40), Window::Small, None, "123456", None), Err(Refusal::BadArgument));
+    let late = TIME.check(Seconds(1 << 40), Window::Small, None, "123456", None);
+    assert_eq!(late, refused(Refusal::BadArgument, 0));
 }
 
 // A password has 6 to 10 ASCII digits, and two passwords have no challenge.
@@ -130,15 +175,16 @@ fn check_of_passwords_out_of_range() {
     let check = |challenge: Option<&str>, password: &str, following: Option<&str>| {
         EVENT.check(Seconds(0), Window::Large, challenge.map(str::as_bytes), password, following.map(str::as_bytes))
     };
-    assert_eq!(check(None, "", None), Err(Refusal::BadArgument));
+    let bad_argument = refused(Refusal::BadArgument, 0);
+    assert_eq!(check(None, "", None), bad_argument);
     for password in ["12345", "12345678901", "12345a", "/23456", ":23456"] {
-        assert_eq!(check(None, password, None), Err(Refusal::BadArgument));
-        assert_eq!(check(None, password, Some("123456")), Err(Refusal::BadArgument));
-        assert_eq!(check(None, "123456", Some(password)), Err(Refusal::BadArgument));
+        assert_eq!(check(None, password, None), bad_argument);
+        assert_eq!(check(None, password, Some("123456")), bad_argument);
+        assert_eq!(check(None, "123456", Some(password)), bad_argument);
     }
-    assert_eq!(check(None, "123456", Some("")), Err(Refusal::Wrong));
-    assert_eq!(check(None, "1234567890", Some("1234567")), Err(Refusal::Wrong));
-    assert_eq!(check(Some("quay"), "123456", None), Err(Refusal::Wrong));
-    assert_eq!(check(Some("quay"), "123456", Some("123456")), Err(Refusal::BadArgument));
-    assert_eq!(check(Some("qua"), "123456", None), Err(Refusal::BadArgument));
+    assert_eq!(check(None, "123456", Some("")), refused(Refusal::Wrong, 50));
+    assert_eq!(check(None, "1234567890", Some("1234567")), refused(Refusal::Wrong, 0));
+    assert_eq!(check(Some("quay"), "123456", None), refused(Refusal::Wrong, 50));
+    assert_eq!(check(Some("quay"), "123456", Some("123456")), bad_argument);
+    assert_eq!(check(Some("qua"), "123456", None), bad_argument);
 }

@@ -194,7 +194,7 @@ static inline struct window_call desk_token(const uint8_t *row, const struct des
         .kind = (uint8_t)row_get(row, ROW_KIND), .algorithm = (uint8_t)row_get(row, ROW_ALGORITHM),
         .digits = (uint8_t)row_get(row, ROW_DIGITS), .period = (uint8_t)row_get(row, ROW_PERIOD),
         .size = desk_window_size(call), .offset = (uint16_t)row_get(row, ROW_OFFSET), .next = row_get(row, ROW_NEXT),
-        .now = call->now, .key_len = row_get(row, ROW_KEY_LEN), .step_len = 1};
+        .now = call->now, .key_len = row_get(row, ROW_KEY_LEN), .step_len = 1, .computed_len = 1};
     memcpy(token.key, row_key(row), OTP_MOST_KEY);
     if (call->name == CALL_CHALLENGE_LOGIN) {
         token.challenge_len = call->challenge.len;

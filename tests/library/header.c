@@ -78,11 +78,14 @@ static void nothing_to_make_a_password_of(void)
 static void nothing_to_check(void)
 {
     const uint8_t event = DL_EVENT_TOKEN, sm4 = DL_ALGORITHM_SM4;
-    uint64_t step = 0;
-    REFUSED(dl_check(event, sm4, 6, 0, 0, 600, 0, DL_SMALL, NULL, 0, NULL, 0, digits, 6, NULL, 0, &step, 1));
-    REFUSED(dl_check(event, sm4, 6, 0, 0, 600, 0, DL_SMALL, sixteen, 16, NULL, 0, digits, 6, NULL, 0, NULL, 0));
-    REFUSED(dl_check(event, sm4, 6, 0, 0, 600, 0, DL_SMALL, sixteen, 16, NULL, 0, NULL, 0, NULL, 0, &step, 1));
-    ANSWERS(DL_WRONG, dl_check(event, sm4, 6, 0, 0, 600, 0, DL_SMALL, sixteen, 16, NULL, 0, digits, 6, NULL, 0, &step, 1));
+    uint64_t step = 77, count = 88;
+    REFUSED(dl_check(event, sm4, 6, 0, 0, 600, 0, DL_SMALL, NULL, 0, NULL, 0, digits, 6, NULL, 0, &step, 1, &count, 1));
+    REFUSED(dl_check(event, sm4, 6, 0, 0, 600, 0, DL_SMALL, sixteen, 16, NULL, 0, digits, 6, NULL, 0, NULL, 0, &count, 1));
+    REFUSED(dl_check(event, sm4, 6, 0, 0, 600, 0, DL_SMALL, sixteen, 16, NULL, 0, digits, 6, NULL, 0, &step, 1, NULL, 0));
+    REFUSED(dl_check(event, sm4, 6, 0, 0, 600, 0, DL_SMALL, sixteen, 16, NULL, 0, NULL, 0, NULL, 0, &step, 1, &count, 1));
+    check(step == 77 && count == 88, "a refused check wrote");
+    ANSWERS(DL_WRONG, dl_check(event, sm4, 6, 0, 0, 600, 0, DL_SMALL, sixteen, 16, NULL, 0, digits, 6, NULL, 0, &step, 1, &count, 1));
+    check(step == 77 && count == 10, "a wrong password, its step or count");
 }
 
 static void no_table(void)

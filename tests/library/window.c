@@ -5,6 +5,7 @@
 #define _DEFAULT_SOURCE
 #include "window_calls.h"
 #include "window_corners.h"
+#include "window_counts.h"
 #include "window_edges.h"
 #include "window_tokens.h"
 #include "window_typing.h"
@@ -106,6 +107,10 @@ static const struct test tests[] = {
     {"set case 9, step by step", steps_of_case_9, 0},
     {"set case 10, step by step", steps_of_case_10, 0},
     {"further windows, step by step", steps_of_further, 0},
+    {"counts of request 2: time, single", counts_of_time, 0},
+    {"counts of request 2: event, single", counts_of_events, 0},
+    {"counts of request 2: pairs", counts_of_pairs, 0},
+    {"counts of request 2: seven digits", counts_of_seven_digits, 0},
     {"every kind, algorithm, size, number of digits and key length; single, challenged and pair", every_combination, 0},
     {"random tokens and passwords", random_calls, 0},
     {"single, a fresh step", single_fresh, 0},

@@ -7,32 +7,63 @@
 #include "window_twins.h"
 #include "window_typing.h"
 
-// ---- steps that share a password of 6 digits
+// ---- plain answers
 
-// The password of both, alone or with the one of a step behind either: the answer is plain, and the reference must give it too.
-static inline void expect_twins(struct window_call *call, const struct twins *pair, int64_t following, struct window_answer answer)
+// The password of a step, alone or with the one of another.
+static inline void type_steps(struct window_call *call, int64_t presented, int64_t following)
 {
-    window_password(call, pair->first, &call->presented);
+    window_password(call, presented, &call->presented);
     call->following.len = 0;
     if (following != ALONE)
         window_password(call, following, &call->following);
+}
+
+// The reference must give it too.
+static inline void expect_plain(const struct window_call *call, struct window_answer answer)
+{
     struct window_answer said = window_check(call);
-    require(said.code == answer.code && said.step == answer.step, "the reference's answer to twins");
+    require(said.code == answer.code && said.step == answer.step && said.computed == answer.computed, "the reference's plain answer");
     expect(call, answer);
+}
+
+// ---- steps that share a password of 6 digits
+
+// How many candidates there are up to a step.
+static inline uint64_t candidates_to(const struct window_call *call, int64_t last)
+{
+    struct window window = window_of(call);
+    int64_t middle = window_middle(&window);
+    uint64_t found = 0;
+    for (int64_t step = middle - WINDOW_STRETCH; step <= middle + WINDOW_STRETCH && step <= last; step++)
+        found += window_has(&window, step);
+    return found;
+}
+
+// The password of both, alone or with the one of a step behind either.
+static inline void expect_done(struct window_call *call, const struct twins *pair, int64_t following, int64_t accepted)
+{
+    type_steps(call, pair->first, following);
+    expect_plain(call, done(accepted, candidates_to(call, accepted)));
+}
+
+static inline void expect_used(struct window_call *call, const struct twins *pair, int64_t following)
+{
+    type_steps(call, pair->first, following);
+    expect_plain(call, used(candidates_to(call, INT64_MAX)));
 }
 
 static inline void smallest_fresh(const struct twins *pair)
 {
     struct window_call call;
     place_twins(&call, pair, both_fresh);
-    expect_twins(&call, pair, ALONE, done(pair->first));
+    expect_done(&call, pair, ALONE, pair->first);
 }
 
 static inline void fresh_wins(const struct twins *pair)
 {
     struct window_call call;
     place_twins(&call, pair, used_and_fresh);
-    expect_twins(&call, pair, ALONE, done(pair->second));
+    expect_done(&call, pair, ALONE, pair->second);
 }
 
 // An event token has only one used candidate.
@@ -42,7 +73,7 @@ static inline void no_fresh(const struct twins *pair)
     if (pair->token.kind == DL_EVENT_TOKEN)
         return;
     place_twins(&call, pair, both_used);
-    expect_twins(&call, pair, ALONE, used);
+    expect_used(&call, pair, ALONE);
 }
 
 // The second password tells which of the two steps is meant.
@@ -50,11 +81,11 @@ static inline void second_decides(const struct twins *pair)
 {
     struct window_call call;
     place_twins(&call, pair, both_fresh);
-    expect_twins(&call, pair, pair->first + 1, done(pair->first + 1));
-    expect_twins(&call, pair, pair->second + 1, done(pair->second + 1));
+    expect_done(&call, pair, pair->first + 1, pair->first + 1);
+    expect_done(&call, pair, pair->second + 1, pair->second + 1);
     place_twins(&call, pair, used_and_fresh);
-    expect_twins(&call, pair, pair->first + 1, used);
-    expect_twins(&call, pair, pair->second + 1, done(pair->second + 1));
+    expect_used(&call, pair, pair->first + 1);
+    expect_done(&call, pair, pair->second + 1, pair->second + 1);
 }
 
 // Where two steps in a row have the same password, that password twice is a right pair.
@@ -62,9 +93,9 @@ static inline void pair_of_neighbours(const struct twins *pair)
 {
     struct window_call call;
     place_twins(&call, pair, first_fresh);
-    expect_twins(&call, pair, pair->second, done(pair->second));
+    expect_done(&call, pair, pair->second, pair->second);
     place_twins(&call, pair, first_at_border);
-    expect_twins(&call, pair, pair->second, used);
+    expect_used(&call, pair, pair->second);
 }
 
 static inline void with_twins(void (*test)(const struct twins *), unsigned wanted)
@@ -121,8 +152,17 @@ static inline void make_listed(struct window_call *call, const struct listed *wi
 {
     *call = (struct window_call){.kind = window->kind, .digits = 10, .period = window->period, .size = window->size,
                                  .next = (uint64_t)window->next, .now = (uint64_t)window->now, .key = "dykeladder",
-                                 .key_len = 16, .step_len = 1};
+                                 .key_len = 16, .step_len = 1, .computed_len = 1};
     set_offset(call, window->offset);
+}
+
+// Of a password that belongs to the step, or to none of the window: the candidates are counted up to the accepted step, or all.
+static inline struct window_answer listed_answer(const struct listed *window, int is_listed, int is_fresh_step, int64_t accepted)
+{
+    uint64_t all = (uint64_t)(window->last - window->first + 1);
+    if (!is_listed)
+        return wrong(all);
+    return is_fresh_step ? done(accepted, (uint64_t)(accepted - window->first + 1)) : used(all);
 }
 
 // The step's password alone and then as the first of a pair; those of 10 digits are all different here.
@@ -130,11 +170,10 @@ static inline void expect_step(struct window_call *call, const struct listed *wi
 {
     int is_fresh_step = step >= window->next;
     int is_listed = window->first <= step && step <= window->last;
-    window_password(call, step, &call->presented);
-    call->following.len = 0;
-    expect(call, !is_listed ? wrong : is_fresh_step ? done(step) : used);
-    window_password(call, step + 1, &call->following);
-    expect(call, !is_listed || step == window->last ? wrong : is_fresh_step ? done(step + 1) : used);
+    type_steps(call, step, ALONE);
+    expect(call, listed_answer(window, is_listed, is_fresh_step, step));
+    type_steps(call, step, step + 1);
+    expect(call, listed_answer(window, is_listed && step < window->last, is_fresh_step, step + 1));
 }
 
 // Every step far around the window; those below 0 or past the last count wrap round, and are none of the window's.

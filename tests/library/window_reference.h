@@ -1,5 +1,6 @@
-// The check of document 01, Part 3, over the password of otp_reference.h, written from the document alone: the arguments are held against
-// Parts 2 to 4, and each step of a wide stretch against the document's own inequalities.
+// The check of document 01, Part 3, over the password of otp_reference.h, written from the documents alone: the arguments are held against
+// Parts 2 to 4, and each step of a wide stretch against the document's own inequalities. The passwords that it computes are counted as
+// document 02, request 2, says.
 #ifndef WINDOW_REFERENCE_H
 #define WINDOW_REFERENCE_H
 
@@ -28,13 +29,14 @@ struct window_call {
     uint16_t offset; // d + 600
     uint64_t next, now;
     uint8_t key[WINDOW_LENGTHS], challenge[WINDOW_LENGTHS];
-    size_t key_len, challenge_len, step_len;
+    size_t key_len, challenge_len, step_len, computed_len;
     struct window_typed presented, following; // nothing following: a single check
 };
 
 struct window_answer {
     uint16_t code;
     uint64_t step; // with DL_DONE
+    uint64_t computed; // how many passwords, with every code but DL_BAD_ARGUMENT
 };
 
 // ---- the arguments
@@ -84,7 +86,7 @@ static inline int window_in_range(const struct window_call *call)
     struct otp_arguments arguments = window_password_arguments(call, 0);
     return otp_in_range(&arguments) && call->now < CLOCK_END
         && (call->size == DL_SMALL || call->size == DL_MEDIUM || call->size == DL_LARGE)
-        && window_is_token(call) && window_is_typed(call) && call->step_len > 0;
+        && window_is_token(call) && window_is_typed(call) && call->step_len > 0 && call->computed_len > 0;
 }
 
 // ---- the candidates
@@ -137,36 +139,61 @@ static inline void window_password(const struct window_call *call, int64_t step,
     otp_require(otp_password(&arguments, password->bytes));
 }
 
-static inline int window_shows(const struct window_call *call, int64_t step, const struct window_typed *typed)
+// A digit count that is not the token's is not searched.
+static inline int window_is_searched(const struct window_call *call)
 {
-    struct window_typed password;
-    window_password(call, step, &password);
-    return typed->len == password.len && memcmp(typed->bytes, password.bytes, password.len) == 0;
+    return call->presented.len == call->digits && (call->following.len == 0 || call->following.len == call->digits);
 }
 
-// The step is a candidate with the password, and for a pair the next one is too.
-static inline int window_matches(const struct window *window, const struct window_call *call, int64_t step)
+static inline int window_is_same(const struct window_typed *one, const struct window_typed *other)
 {
-    if (!window_has(window, step) || !window_shows(call, step, &call->presented))
+    return one->len == other->len && memcmp(one->bytes, other->bytes, one->len) == 0;
+}
+
+// A search on its way up the steps.
+struct window_search {
+    uint64_t computed; // passwords so far
+    int is_begun; // the step before is a candidate with the first password of a pair
+};
+
+// The step is a candidate with the password, computed this once; of a pair it has the following one, and the step before has the first.
+static inline int window_matches(struct window_search *search, const struct window *window, const struct window_call *call, int64_t step)
+{
+    struct window_typed password;
+    int was_begun = search->is_begun;
+    search->is_begun = 0;
+    if (!window_has(window, step))
         return 0;
-    return call->following.len == 0 || (window_has(window, step + 1) && window_shows(call, step + 1, &call->following));
+    window_password(call, step, &password);
+    search->computed++;
+    search->is_begun = window_is_same(&password, &call->presented);
+    if (call->following.len == 0)
+        return search->is_begun;
+    return was_begun && window_is_same(&password, &call->following);
+}
+
+// Up the candidates, to the first match that is fresh.
+static inline struct window_answer window_swept(const struct window_call *call)
+{
+    struct window window = window_of(call);
+    struct window_search search = {0, 0};
+    int64_t middle = window_middle(&window), is_pair = call->following.len > 0;
+    uint16_t otherwise = DL_WRONG;
+    for (int64_t step = middle - WINDOW_STRETCH; step <= middle + WINDOW_STRETCH; step++) {
+        if (!window_matches(&search, &window, call, step))
+            continue;
+        if (step - is_pair >= window.next)
+            return (struct window_answer){DL_DONE, (uint64_t)step, search.computed};
+        otherwise = DL_USED;
+    }
+    return (struct window_answer){otherwise, 0, search.computed};
 }
 
 static inline struct window_answer window_check(const struct window_call *call)
 {
     if (!window_in_range(call))
-        return (struct window_answer){DL_BAD_ARGUMENT, 0};
-    struct window window = window_of(call);
-    int64_t middle = window_middle(&window), is_pair = call->following.len > 0;
-    uint16_t otherwise = DL_WRONG;
-    for (int64_t step = middle - WINDOW_STRETCH; step <= middle + WINDOW_STRETCH; step++) {
-        if (!window_matches(&window, call, step))
-            continue;
-        if (step >= window.next)
-            return (struct window_answer){DL_DONE, (uint64_t)(step + is_pair)};
-        otherwise = DL_USED;
-    }
-    return (struct window_answer){otherwise, 0};
+        return (struct window_answer){DL_BAD_ARGUMENT, 0, 0};
+    return window_is_searched(call) ? window_swept(call) : (struct window_answer){DL_WRONG, 0, 0};
 }
 
 #endif

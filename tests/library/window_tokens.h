@@ -7,7 +7,7 @@
 
 typedef void token_maker(struct window_call *);
 
-enum { MOST_STEPS = 60 };
+enum { MOST_STEPS = 60, MOST_COUNTS = 4 }; // elements lent for them
 
 static const int64_t most_next = CLOCK_END + WINDOW_FARTHEST;
 
@@ -63,6 +63,7 @@ static inline void make_token(struct window_call *call, uint8_t kind)
     random_bytes(call->key, sizeof call->key);
     make_challenge(call, one_in(2) ? 0 : random_between(4, 32));
     call->step_len = 1 + random_below(MOST_STEPS);
+    call->computed_len = 1 + random_below(MOST_COUNTS);
     call->offset = WINDOW_FARTHEST;
     call->now = random_long(CLOCK_END);
 }
