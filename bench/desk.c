@@ -1,5 +1,5 @@
 // The desk beside the same calls in C over OpenSSL (desk_peer.h) and beside liboath, which has passwords and windows but no table:
-// prints rows of the report's table, then how the cost grows with rows and with candidates, and which refusals write.
+// prints rows of the report's table, then how the cost grows with the rows, and which refusals write.
 #define _DEFAULT_SOURCE
 #include "desk_scenes.h"
 #include "desk_refusals.h"
@@ -108,15 +108,13 @@ static const struct contestant contestants[CALLS][CONTESTANTS] = {
     [CALL_QUERY] = {{"dl_query", ours_query, 0, 0}, {"C, rows as a struct", openssl_query, 0, 0}},
 };
 
-// Queries of fewer rows stand there for what a row more costs, and have no target.
+// Queries of fewer rows stand there for what a row more costs, and have no target. liboath is what a user would otherwise link.
 static struct race race_of(const struct line *line)
 {
     struct race race = {.what = line->what, .rounds = ROUNDS, .calls = line->calls, .in_a_call = 1};
     memcpy(race.contestants, contestants[line->name], sizeof race.contestants);
-    if (line->name != CALL_QUERY || line->rows == DL_MOST_ROWS) {
-        race.target[1] = 1.3;
-        race.target[2] = 1.0;
-    }
+    race.target[1] = line->target;
+    race.target[2] = 1.0;
     return race;
 }
 
@@ -171,55 +169,46 @@ static void set_up(void)
     }
 }
 
-// ---- growth
+// ---- growth with the rows
 
 enum { SIZES = 3 };
 
 #define MOST_GROWTH 1.3
 
-// The same call on three sizes. A pair's candidates are the steps that have another one behind them.
-static const struct growth {
-    const char *what;
-    enum line_name lines[SIZES];
-    double counts[SIZES];
-} growths[] = {
-    {"rows: query, the serial last", {QUERY_1, QUERY_16, QUERY_256}, {1, 16, 256}},
-    {"candidates: all wrong, SM3", {WRONG_SM3, MEDIUM_SM3, LARGE_SM3}, {5, 10, 20}},
-    {"candidates: all wrong, SM4", {WRONG_SM4, MEDIUM_SM4, LARGE_SM4}, {5, 10, 20}},
-};
+static const enum line_name queries[SIZES] = {QUERY_1, QUERY_16, QUERY_256};
 
-// What one row or candidate more costs, between a size and the one before it.
-static double one_more(const struct growth *growth, size_t size, size_t contestant)
+// What one row more costs, between a size and the one before it.
+static double one_more(size_t size, size_t contestant)
 {
-    double before = races[growth->lines[size - 1]].contestants[contestant].best;
-    double after = races[growth->lines[size]].contestants[contestant].best;
-    return (after - before) / (growth->counts[size] - growth->counts[size - 1]);
+    enum line_name before = queries[size - 1], after = queries[size];
+    return (races[after].contestants[contestant].best - races[before].contestants[contestant].best)
+        / (double)(lines[after].rows - lines[before].rows);
 }
 
 // The second size and the third say what one more costs; the cost is linear if that is no more among many than among few.
-static void print_size(const struct growth *growth, size_t size)
+static void print_size(size_t size)
 {
-    const struct contestant *all = races[growth->lines[size]].contestants;
-    printf("| %-28s | %5.0f | %8.0f | %8.0f |", growth->what, growth->counts[size], all[0].best, all[1].best);
+    const struct contestant *all = races[queries[size]].contestants;
+    printf("| %-28s | %5zu | %8.0f | %8.0f |", "rows: query, the serial last", lines[queries[size]].rows, all[0].best, all[1].best);
     if (size == 0)
         printf(" %12s | %12s |", "-", "-");
     else
-        printf(" %12.1f | %12.1f |", one_more(growth, size, 0), one_more(growth, size, 1));
+        printf(" %12.1f | %12.1f |", one_more(size, 0), one_more(size, 1));
     if (size < SIZES - 1) {
         printf(" %6s | %7s | %-3s |\n", "-", "-", "-");
         return;
     }
-    double times = one_more(growth, size, 0) / one_more(growth, size - 1, 0);
+    double times = one_more(size, 0) / one_more(size - 1, 0);
     printf(" %6.2f | %7.1f | %-3s |\n", times, MOST_GROWTH, times <= MOST_GROWTH ? "yes" : "NO");
 }
 
-static void print_growths(void)
+static void print_growth(void)
 {
     printf("\n| %-28s | %5s | %8s | %8s | %12s | %12s | %6s | %7s | %-3s |\n", "Cost by", "Count", "Ours, ns", "Peer, ns",
            "One more, ns", "Peer's, ns", "Growth", "At most", "Met");
     puts("|---|--:|--:|--:|--:|--:|--:|--:|---|");
-    for (size_t i = 0; i < SIZES * sizeof growths / sizeof *growths; i++)
-        print_size(&growths[i / SIZES], i % SIZES);
+    for (size_t size = 0; size < SIZES; size++)
+        print_size(size);
 }
 
 int main(void)
@@ -231,7 +220,7 @@ int main(void)
     }
     for (size_t i = 0; i < LINES; i++)
         print_race(&races[i]);
-    print_growths();
+    print_growth();
     print_refusals();
     return 0;
 }

@@ -1,5 +1,5 @@
-// The desk's login, activate, sync and query in C over OpenSSL, as a good program without the proved library would have them: the
-// benchmark's peer. The rules and codes are those of tests/library/desk_reference.h; all that takes time is written for speed here.
+// The desk's login, activate, sync and query, and the check alone, in C over OpenSSL, as a good program without the proved library would have
+// them: the benchmark's peer. The rules and codes are those of tests/library/desk_reference.h; all that takes time is written for speed here.
 #ifndef DESK_PEER_H
 #define DESK_PEER_H
 
@@ -41,6 +41,13 @@ static inline int peer_kind_kept(const struct peer_row *row)
     return row->kind == DL_EVENT_TOKEN && row->period == 0 && next <= COUNT_END && offset == WINDOW_FARTHEST;
 }
 
+// What a check needs to know of the row.
+static inline int peer_track_kept(const struct peer_row *row)
+{
+    return (row->algorithm == OTP_SM3 || row->algorithm == OTP_SM4) && OTP_LEAST_DIGITS <= row->digits && row->digits <= OTP_MOST_DIGITS
+        && OTP_LEAST_KEY <= row->key_len && row->key_len <= OTP_MOST_KEY && peer_kind_kept(row);
+}
+
 static inline int peer_times_kept(const struct peer_row *row)
 {
     uint32_t wait = be32toh(row->wait);
@@ -52,11 +59,9 @@ static inline int peer_times_kept(const struct peer_row *row)
 static inline int peer_well_formed(const struct peer_row *row)
 {
     static const uint8_t zeros[OTP_MOST_KEY - OTP_LEAST_KEY];
-    return row->state <= DL_STATE_VOID && (row->algorithm == OTP_SM3 || row->algorithm == OTP_SM4)
-        && OTP_LEAST_DIGITS <= row->digits && row->digits <= OTP_MOST_DIGITS && 1 <= row->limit && row->limit <= ROW_MOST_LIMIT
-        && OTP_LEAST_KEY <= row->key_len && row->key_len <= OTP_MOST_KEY
+    return row->state <= DL_STATE_VOID && 1 <= row->limit && row->limit <= ROW_MOST_LIMIT && peer_track_kept(row)
         && memcmp(row->key + row->key_len, zeros, OTP_MOST_KEY - row->key_len) == 0
-        && row->zeros == 0 && row->end == 0 && peer_kind_kept(row) && peer_times_kept(row);
+        && row->zeros == 0 && row->end == 0 && peer_times_kept(row);
 }
 
 // ---- the password, with what all candidates share laid ready once a call
@@ -134,51 +139,68 @@ static inline struct peer_window peer_window(const struct peer_row *row, uint8_t
         peer_larger(first, 0), peer_smaller(centre + time_widths[size], clock_step + WINDOW_FARTHEST) + 1};
 }
 
-// What was typed in, as numbers.
+// A password that was typed in, as a number.
 struct peer_typed {
-    uint64_t password, following;
+    uint64_t number;
+    size_t digits;
 };
 
-static inline int peer_read_password(const struct window_typed *typed, uint64_t *number)
+// What a check is given beside the row.
+struct peer_asked {
+    uint8_t size; // of the window
+    int is_pair;
+    uint64_t now;
+    struct peer_typed password, following;
+};
+
+// What a check finds: DL_DONE with the accepted step, DL_USED or DL_WRONG, and how many passwords it computed.
+struct peer_found {
+    uint16_t code;
+    int64_t accepted;
+    uint64_t computed;
+};
+
+static inline int peer_read_password(const struct window_typed *typed, struct peer_typed *read)
 {
-    *number = 0;
+    *read = (struct peer_typed){0, typed->len};
     if (typed->len < OTP_LEAST_DIGITS || typed->len > OTP_MOST_DIGITS)
         return 0;
     for (size_t i = 0; i < typed->len; i++) {
         unsigned digit = typed->bytes[i] - '0';
         if (digit > 9)
             return 0;
-        *number = *number * 10 + digit;
+        read->number = read->number * 10 + digit;
     }
     return 1;
 }
 
-// The smallest step from first up to, not including, end that has the password, and of a pair the step behind it the following
-// one; or -1.
-static inline int64_t peer_sweep(struct peer_token *token, struct peer_typed typed, int is_pair, int64_t first, int64_t end)
+// Up the candidates, each computed at most once, to the accepted one. Of a pair this is the second step, and the first has to be fresh.
+static inline struct peer_found peer_sweep(struct peer_token *token, const struct peer_asked *asked, struct peer_window window)
 {
-    for (int64_t step = first; step < end; step++)
-        if (peer_password(token, (uint64_t)step) == typed.password
-            && (!is_pair || peer_password(token, (uint64_t)step + 1) == typed.following))
-            return step;
-    return -1;
+    struct peer_found found = {.code = DL_WRONG};
+    int64_t fresh = (int64_t)be64toh(token->row->next) + asked->is_pair;
+    uint64_t last = asked->is_pair ? asked->following.number : asked->password.number;
+    int is_begun = !asked->is_pair; // the step before has the first password of the pair
+    for (int64_t step = window.first; step < window.end; step++) {
+        uint64_t password = peer_password(token, (uint64_t)step);
+        found.computed++;
+        if (is_begun && password == last) {
+            if (step >= fresh)
+                return (struct peer_found){DL_DONE, step, found.computed};
+            found.code = DL_USED;
+        }
+        is_begun = !asked->is_pair || password == asked->password.number;
+    }
+    return found;
 }
 
-// DL_DONE with the accepted step, DL_USED or DL_WRONG. Fresh steps come first: if one matches, no used one needs to be tried.
-static inline uint16_t peer_check(const struct peer_row *row, const struct desk_call *call, struct peer_typed typed,
-                                  int64_t *accepted)
+static inline struct peer_found peer_check(const struct peer_row *row, const struct peer_asked *asked)
 {
-    int is_pair = desk_rules[call->name].check == PAIR;
-    struct peer_window window = peer_window(row, desk_window_size(call), call->now);
-    int64_t next = (int64_t)be64toh(row->next), end = window.end - is_pair;
     struct peer_token token;
-    if (call->password.len != row->digits || (is_pair && call->following.len != row->digits))
-        return DL_WRONG;
+    if (asked->password.digits != row->digits || (asked->is_pair && asked->following.digits != row->digits))
+        return (struct peer_found){.code = DL_WRONG};
     peer_prepare(&token, row);
-    *accepted = peer_sweep(&token, typed, is_pair, peer_larger(window.first, next), end) + is_pair;
-    if (*accepted >= is_pair)
-        return DL_DONE;
-    return peer_sweep(&token, typed, is_pair, window.first, peer_smaller(next, end)) < 0 ? DL_WRONG : DL_USED;
+    return peer_sweep(&token, asked, peer_window(row, asked->size, asked->now));
 }
 
 // ---- a call on its row
@@ -217,9 +239,8 @@ static inline void peer_accept(struct peer_row *row, const struct desk_call *cal
     values[1] = offset;
 }
 
-static inline uint16_t peer_serve(struct peer_row *row, const struct desk_call *call, struct peer_typed typed, int64_t *values)
+static inline uint16_t peer_serve(struct peer_row *row, const struct desk_call *call, const struct peer_asked *asked, int64_t *values)
 {
-    int64_t step;
     if (peer_wait_is_over(row, call->now)) {
         peer_become(row, DL_STATE_READY);
         row->errors = 0;
@@ -228,19 +249,19 @@ static inline uint16_t peer_serve(struct peer_row *row, const struct desk_call *
         return desk_state_codes[row->state];
     if (call->now >= be64toh(row->expiry))
         return DL_TOKEN_EXPIRED;
-    uint16_t found = peer_check(row, call, typed, &step);
-    if (found == DL_DONE) {
-        peer_accept(row, call, step, values);
+    struct peer_found found = peer_check(row, asked);
+    if (found.code == DL_DONE) {
+        peer_accept(row, call, found.accepted, values);
         return desk_rules[call->name].success;
     }
     peer_add_error(row, call);
-    return found == DL_USED ? desk_used_code(call->name) : desk_wrong_code(call->name);
+    return found.code == DL_USED ? desk_used_code(call->name) : desk_wrong_code(call->name);
 }
 
 // ---- the calls; compiled apart from their caller, as a library's are. Each begins a page: where it lies beside OpenSSL's functions decides a tenth of
 // its time, which would else move with every header that is included here.
 
-#define PEER_CALL __attribute__((noipa, aligned(4096))) static uint16_t
+#define PEER_CALL __attribute__((noipa, unused, aligned(4096))) static uint16_t
 
 static inline int peer_lent_ok(const struct desk_call *call)
 {
@@ -251,15 +272,31 @@ static inline int peer_lent_ok(const struct desk_call *call)
 // A login, an activate or a sync: its code. A success sets the values.
 PEER_CALL peer_checked_call(struct peer_row *table, const struct desk_call *call, int64_t *values)
 {
-    struct peer_typed typed = {0, 0};
-    if (!peer_lent_ok(call) || !peer_read_password(&call->password, &typed.password)
-        || (desk_rules[call->name].check == PAIR && !peer_read_password(&call->following, &typed.following))
+    struct peer_asked asked = {
+        .size = desk_window_size(call), .is_pair = desk_rules[call->name].check == PAIR, .now = call->now};
+    if (!peer_lent_ok(call) || !peer_read_password(&call->password, &asked.password)
+        || (asked.is_pair && !peer_read_password(&call->following, &asked.following))
         || (call->name == CALL_SYNC && call->choice != DL_SYNC_MEDIUM && call->choice != DL_SYNC_LARGE))
         return DL_BAD_ARGUMENT;
     struct peer_row *row = peer_find(table, call->table_len, call->serial);
     if (row == NULL)
         return DL_NO_TOKEN;
-    return peer_well_formed(row) ? peer_serve(row, call, typed, values) : DL_DAMAGED_ROW;
+    return peer_well_formed(row) ? peer_serve(row, call, &asked, values) : DL_DAMAGED_ROW;
+}
+
+// The check of one password, on the row's numbers alone.
+PEER_CALL peer_single_check(const struct peer_row *row, uint8_t size, uint64_t now, const struct window_typed *presented,
+                            uint64_t *step, uint64_t *computed)
+{
+    struct peer_asked asked = {.size = size, .now = now};
+    if (!peer_track_kept(row) || size < DL_SMALL || size > DL_LARGE || now >= CLOCK_END
+        || !peer_read_password(presented, &asked.password))
+        return DL_BAD_ARGUMENT;
+    struct peer_found found = peer_check(row, &asked);
+    *computed = found.computed;
+    if (found.code == DL_DONE)
+        *step = (uint64_t)found.accepted;
+    return found.code;
 }
 
 PEER_CALL peer_query(struct peer_row *table, const struct desk_call *call, int64_t *values)
