@@ -75,6 +75,11 @@ module _ (k : Track) (clock : ℕ) (key : List ℕ) (size : Size) where
 
 -- ---- the ways through `check`
 
+abbrev pub firstPassword : Asked → Password
+firstPassword (Asked.One size p) = p
+firstPassword (Asked.Challenged size p) = p
+firstPassword (Asked.Two size p q) = p
+
 -- what a check gives
 pub record Given (k : Track) (clock : ℕ) (key challenge : List ℕ) (asked : Asked) (r : Swept) : Type 0 where
   pub found : r .outcome ≡ outcomeOf passwordAt k clock key challenge asked
@@ -94,16 +99,17 @@ module _ (k : Track) (clock : ℕ) (key challenge : List ℕ) (asked : Asked) {b
     right : countsRight (k .scheme .digits) asked ≡ true
     right = sym eb ∙ not-false b t
 
-    -- the modulus of a goal is of at most ten digits
-    pub one-counted : {size : Size} {p : Password} → asked ≡ Asked.One size p → k .scheme .digits ≤ 10 → p .digits ≤ 10
-    one-counted {p = p} e l = let u : eqb (p .digits) (k .scheme .digits) ≡ true = rw e at right in rw (eqb-true (p .digits) (k .scheme .digits) u) l
+    -- the first password has at most ten digits, as the token has
+    pub counted : k .scheme .digits ≤ 10 → firstPassword asked .digits ≤ 10
+    counted l = by-kind asked right
+      where
+        same : (p : Password) → eqb (p .digits) (k .scheme .digits) ≡ true → p .digits ≤ 10
+        same p u = rw (eqb-true (p .digits) (k .scheme .digits) u) l
 
-    pub challenged-counted : {size : Size} {p : Password} → asked ≡ Asked.Challenged size p → k .scheme .digits ≤ 10 → p .digits ≤ 10
-    challenged-counted {p = p} e l = let u : eqb (p .digits) (k .scheme .digits) ≡ true = rw e at right in rw (eqb-true (p .digits) (k .scheme .digits) u) l
-
-    pub two-counted : {size : Size} {p q : Password} → asked ≡ Asked.Two size p q → k .scheme .digits ≤ 10 → p .digits ≤ 10
-    two-counted {p = p} {q = q} e l =
-        let u : eqb (p .digits) (k .scheme .digits) && eqb (q .digits) (k .scheme .digits) ≡ true = rw e at right in rw (eqb-true (p .digits) (k .scheme .digits) (and-left _ _ u)) l
+        by-kind : (a : Asked) → countsRight (k .scheme .digits) a ≡ true → firstPassword a .digits ≤ 10
+        by-kind (Asked.One size p) u = same p u
+        by-kind (Asked.Challenged size p) u = same p u
+        by-kind (Asked.Two size p q) u = same p (and-left _ _ u)
 
     given : (cutOf : ℕ → ℕ) (g : Goal) {r : Swept} → goalOutcome k clock (windowSize asked) g cutOf ≡ outcomeOf passwordAt k clock key challenge asked
         → r ≡ sweptBy k clock (windowSize asked) g cutOf → Given k clock key challenge asked r

@@ -116,13 +116,81 @@ stand-begun first end next ahead o f s e =
       ends = λ z. absurd (omega arith);
     }
 
--- the sweep has not ended, and has
-pub record Goes (first end ahead : ℕ) (m : Met) (i : ℕ) : Type 0 where
-  pub inside : first + i + ahead < end
-  pub unmet : m .fresh ≤ 0
+module _ {first end next ahead : ℕ} {m : Met} {made i : ℕ} (st : Stand first end next ahead m made i) where
+  -- ---- the sweep has not ended
 
-pub not-ended : (first end ahead i : ℕ) (m : Met) → leb end (first + i + ahead) || ltb 0 (m .fresh) ≡ false → Goes first end ahead m i
-not-ended first end ahead i m t = record { inside = leb-false end (first + i + ahead) (or-left _ _ t); unmet = ltb-false 0 (m .fresh) (or-right (leb end (first + i + ahead)) _ t) }
+  module _ (still : leb end (first + i + ahead) || ltb 0 (m .fresh) ≡ false) where
+    pub still-inside : first + i + ahead < end
+    still-inside = leb-false end (first + i + ahead) (or-left _ _ still)
+
+    unmet : m .fresh ≤ 0
+    unmet = ltb-false 0 (m .fresh) (or-right (leb end (first + i + ahead)) _ still)
+
+    pub some-candidate : 0 < end - first
+    some-candidate = omega (arith, still-inside)
+
+    -- a cut is made
+
+    module _ (short : made ≤ i + ahead) where
+      pub room-for-one : (cuts : List ℕ) → length cuts ≡ 51 → made + 1 ≤ length cuts
+      room-for-one cuts e = omega (arith, still-inside, st .few)
+
+      pub made-less : (end - (first + i)) + (end - (first + (made + 1))) < (end - (first + i)) + (end - (first + made))
+      made-less = omega (arith, still-inside)
+
+      pub stand-made : Stand first end next ahead m (made + 1) i
+      stand-made =
+          record {
+            one = st .one;
+            few = st .few;
+            small = st .small;
+            looked = st .looked;
+            most = omega (arith, still-inside);
+            least = omega (arith, st .least);
+            sure = omega arith;
+            counts = st .counts;
+            near = st .near;
+            ends = λ z. absurd (omega (arith, unmet));
+          }
+
+    -- a place is looked at
+
+    pub looked-less : (end - (first + (i + 1))) + (end - (first + made)) < (end - (first + i)) + (end - (first + made))
+    looked-less = omega (arith, still-inside)
+
+    pub stand-met : (h : Bool) → i + ahead < made → Stand first end next ahead (metBy m h (leb next (first + i)) i) made (i + 1)
+    stand-met h l =
+        record {
+          one = st .one;
+          few = st .few;
+          small = st .small;
+          looked = omega (arith, still-inside);
+          most = st .most;
+          least = omega arith;
+          sure = omega (arith, st .sure);
+          counts = count-met h (leb next (first + i));
+          near = near-met h (leb next (first + i));
+          ends = ends-met h (leb next (first + i)) refl;
+        }
+      where
+        count-met : (h b : Bool) → metBy m h b i .fresh ≤ i + 1
+        count-met false b = omega (arith, st .counts)
+        count-met true false = omega (arith, st .counts)
+        count-met true true = omega (arith, st .counts)
+
+        near-met : (h b : Bool) → metBy m h b i .at ≤ i + 1
+        near-met false b = omega (arith, st .near)
+        near-met true false = omega (arith, st .near)
+        near-met true true = by-test (eqb (m .fresh) 0) (λ e. rw e (omega arith)) (λ e. rw e (omega (arith, st .near)))
+
+        ends-met : (h b : Bool) → leb next (first + i) ≡ b → 0 < metBy m h b i .fresh → made ≡ metBy m h b i .at + ahead + 1
+        ends-met false b u z = absurd (omega (arith, unmet))
+        ends-met true false u z = absurd (omega (arith, unmet))
+        ends-met true true u z =
+            let e : m .fresh ≡ 0 = omega (arith, unmet) in
+            rw (eq-eqb (m .fresh) 0 e) (omega (arith, st .sure, leb-true next (first + i) u))
+
+-- ---- the sweep has ended: where no fresh step hit, every place was looked at
 
 or-first : (a : Bool) → a || false ≡ true → a ≡ true
 or-first true t = refl
@@ -130,54 +198,6 @@ or-first false t = t
 
 all-looked : (first end ahead i : ℕ) (m : Met) → ltb 0 (m .fresh) ≡ false → leb end (first + i + ahead) || ltb 0 (m .fresh) ≡ true → end ≤ first + i + ahead
 all-looked first end ahead i m u t = leb-true end (first + i + ahead) (or-first (leb end (first + i + ahead)) (rw u at t))
-
-module _ (first end next ahead : ℕ) (m : Met) (made i : ℕ) (st : Stand first end next ahead m made i) (on : Goes first end ahead m i) where
-  pub stand-made : made ≤ i + ahead → Stand first end next ahead m (made + 1) i
-  stand-made l =
-      record {
-        one = st .one;
-        few = st .few;
-        small = st .small;
-        looked = st .looked;
-        most = omega (arith, on .inside);
-        least = omega (arith, st .least);
-        sure = omega arith;
-        counts = st .counts;
-        near = st .near;
-        ends = λ z. absurd (omega (arith, on .unmet));
-      }
-
-  pub stand-met : (h : Bool) → i + ahead < made → Stand first end next ahead (metBy m h (leb next (first + i)) i) made (i + 1)
-  stand-met h l =
-      record {
-        one = st .one;
-        few = st .few;
-        small = st .small;
-        looked = omega (arith, on .inside);
-        most = st .most;
-        least = omega arith;
-        sure = omega (arith, st .sure);
-        counts = count-met h (leb next (first + i));
-        near = near-met h (leb next (first + i));
-        ends = ends-met h (leb next (first + i)) refl;
-      }
-    where
-      count-met : (h b : Bool) → metBy m h b i .fresh ≤ i + 1
-      count-met false b = omega (arith, st .counts)
-      count-met true false = omega (arith, st .counts)
-      count-met true true = omega (arith, st .counts)
-
-      near-met : (h b : Bool) → metBy m h b i .at ≤ i + 1
-      near-met false b = omega (arith, st .near)
-      near-met true false = omega (arith, st .near)
-      near-met true true = by-test (eqb (m .fresh) 0) (λ e. rw e (omega arith)) (λ e. rw e (omega (arith, st .near)))
-
-      ends-met : (h b : Bool) → leb next (first + i) ≡ b → 0 < metBy m h b i .fresh → made ≡ metBy m h b i .at + ahead + 1
-      ends-met false b u z = absurd (omega (arith, on .unmet))
-      ends-met true false u z = absurd (omega (arith, on .unmet))
-      ends-met true true u z =
-          let e : m .fresh ≡ 0 = omega (arith, on .unmet) in
-          rw (eq-eqb (m .fresh) 0 e) (omega (arith, st .sure, leb-true next (first + i) u))
 
 -- ---- the hits of a range
 
@@ -280,8 +300,8 @@ swept-made k clock size goal key challenge {maker} {first} ef ee ea em inv ended
     rw (← by) (swept k clock size goal (stepCut (maker .algorithm) key challenge (maker .timed)) ef ee ea (inv .stand) (inv .told) ended eo)
 
 -- no step of a window comes near 2^63
-pub one-fits : (first made n : ℕ) → n ≡ made + 1 - made → first ≤ 2 ^ 41 → made ≤ 51 → first + made + n < 2 ^ 63
-one-fits first made n e s l = omega arith
+pub one-fits : {first end next ahead : ℕ} {m : Met} {made i : ℕ} → Stand first end next ahead m made i → (n : ℕ) → n ≡ made + 1 - made → first + made + n < 2 ^ 63
+one-fits {made = made} st n e = let one : n ≡ 1 = omega arith in omega (arith, one, st .small, st .most, st .few)
 
 -- the list of cuts, with the first ones put, and with one more
 module _ (cutOf : ℕ → ℕ) (first : ℕ) where

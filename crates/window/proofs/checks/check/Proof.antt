@@ -1,7 +1,7 @@
 use Prim.Native.Nat.{zero-le}
 use Rattle.window.specs.PasswordAtLaws.{range-fits}
 use Rattle.window.specs.GoalLaws.{single-modulus, pair-modulus}
-use Rattle.window.specs.AskedLaws.{check-miscounted, one-counted, challenged-counted, two-counted, check-one, check-challenged, check-two}
+use Rattle.window.specs.AskedLaws.{check-miscounted, counted, check-one, check-challenged, check-two}
 use borrow.Author.Needs.{needs}
 use Rattle.window.proofs.checks.check.Statement.{statement}
 use Rattle.window.proofs.checks.check.Tie as tie
@@ -28,7 +28,8 @@ single-goal-requires c κs =
     let if1 = c .before .before .before .before .if1 in
     let asked = c .before .before .asked in
     let fits = range-fits (args .track .scheme) (args .key .now) (args .challenge .now) (given .1) in
-    one-counted (args .track) (args .clock .0) (args .key .now) (args .challenge .now) (args .asked) (counts-right .ensures) (if1 .left) (asked .given .1) (fits .counted)
+    let few = counted (args .track) (args .clock .0) (args .key .now) (args .challenge .now) (args .asked) (counts-right .ensures) (if1 .left) (fits .counted) in
+    rw (asked .given .1) at few
 
 sweep-requires : tie.Need-sweep-requires
 sweep-requires c κs =
@@ -47,7 +48,8 @@ single-goal-requires-2 c κs =
     let counts-right = c .before .before .before .before .counts-right in
     let if1 = c .before .before .before .if1 in
     let fits = range-fits (args .track .scheme) (args .key .now) (args .challenge .now) (given .1) in
-    challenged-counted (args .track) (args .clock .0) (args .key .now) (args .challenge .now) (args .asked) (counts-right .ensures) (if1 .left) (c .before .asked2 .given .1) (fits .counted)
+    let few = counted (args .track) (args .clock .0) (args .key .now) (args .challenge .now) (args .asked) (counts-right .ensures) (if1 .left) (fits .counted) in
+    rw (c .before .asked2 .given .1) at few
 
 sweep-requires-2 : tie.Need-sweep-requires-2
 sweep-requires-2 c κs =
@@ -70,7 +72,8 @@ pair-goal-requires c κs =
     let if1 = c .before .before .before .before .if1 in
     let asked3 = c .before .before .asked3 in
     let fits = range-fits (args .track .scheme) (args .key .now) (args .challenge .now) (given .1) in
-    two-counted (args .track) (args .clock .0) (args .key .now) (args .challenge .now) (args .asked) (counts-right .ensures) (if1 .left) (asked3 .given .1) (fits .counted)
+    let few = counted (args .track) (args .clock .0) (args .key .now) (args .challenge .now) (args .asked) (counts-right .ensures) (if1 .left) (fits .counted) in
+    rw (asked3 .given .1) at few
 
 sweep-requires-3 : tie.Need-sweep-requires-3
 sweep-requires-3 c κs =

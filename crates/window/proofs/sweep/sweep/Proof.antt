@@ -1,5 +1,5 @@
 use Rattle.otp.specs.CutLists.{stepCut, Ready}
-use Rattle.window.specs.SweepLaws.{stand-begun, not-ended, stand-made, stand-met, told-begun, told-next, Sweeping, swept-made, one-fits, first-put, more-put, cut-read}
+use Rattle.window.specs.SweepLaws.{stand-begun, still-inside, some-candidate, room-for-one, made-less, stand-made, looked-less, stand-met, told-begun, told-next, Sweeping, swept-made, one-fits, first-put, more-put, cut-read}
 use Rattle.window.specs.WindowLaws.{first-small, candidates-few}
 use Prim.Native.Nat.{ℕ, _+_, _-_, _<_}
 use lib.ListN.{replicate}
@@ -122,48 +122,37 @@ part-cuts-start-2 c = search needs
 
 part-cuts-end-2 : tie.Need-part-cuts-end-2 Inv-loop μ-loop
 part-cuts-end-2 c =
-    let ahead-by = c .before .before .before .before .before .before .before .before .before .before .before .before .before .before .before .ahead-by in
-    let candidates = c .before .before .before .before .before .before .before .before .before .before .before .before .before .before .candidates in
     let loop = c .before .before .before .before .loop in
     let if1 = c .before .before .if1 in
-    let on = not-ended (candidates .result .first .0) (candidates .result .end .0) (ahead-by .result) (loop .i) (loop .met) (if1 .left) in
-    omega (arith, on .inside, loop .inv .0 .stand .few, loop .inv .0 .room, c .before .if2 .taken)
+    room-for-one (loop .inv .0 .stand) (if1 .left) (c .before .if2 .taken) (loop .cuts) (loop .inv .0 .room)
 
 put-cuts-requires : tie.Need-put-cuts-requires Inv-loop μ-loop
 put-cuts-requires c κs =
     let given = c .before .before .before .before .before .before .before .before .before .before .before .before .before .before .before .before .before .before .before .pre in
-    let ahead-by = c .before .before .before .before .before .before .before .before .before .before .before .before .before .before .before .before .ahead-by in
-    let candidates = c .before .before .before .before .before .before .before .before .before .before .before .before .before .before .before .candidates in
     let loop = c .before .before .before .before .before .loop in
     let if1 = c .before .before .before .if1 in
-    let on = not-ended (candidates .result .first .0) (candidates .result .end .0) (ahead-by .result) (loop .i) (loop .met) (if1 .left) in
     let stand = loop .inv .0 .stand in
-    (given .1 .1 .0, (loop .inv .1 (omega (arith, on .inside)), (given .1 .1 .1 .0, one-fits _ _ _ (sym (c .cuts3 .given .1)) (stand .small) (omega (arith, stand .few, stand .most)))))
+    (given .1 .1 .0, (loop .inv .1 (some-candidate stand (if1 .left)), (given .1 .1 .1 .0, one-fits stand _ (sym (c .cuts3 .given .1)))))
 
 add-made : tie.Need-add-made Inv-loop μ-loop
 add-made c = search needs
 
 loop-less : tie.Need-loop-less Inv-loop μ-loop
 loop-less c =
-    let ahead-by = c .before .before .before .before .before .before .before .before .before .before .before .before .before .before .before .before .before .before .ahead-by in
-    let candidates = c .before .before .before .before .before .before .before .before .before .before .before .before .before .before .before .before .before .candidates in
     let loop = c .before .before .before .before .before .before .before .loop in
     let if1 = c .before .before .before .before .before .if1 in
     let if2 = c .before .before .before .before .if2 in
-    let on = not-ended (candidates .result .first .0) (candidates .result .end .0) (ahead-by .result) (loop .i) (loop .met) (if1 .left) in omega (arith, on .inside, if2 .taken)
+    made-less (loop .inv .0 .stand) (if1 .left) (if2 .taken)
 
 loop-again : tie.Need-loop-again Inv-loop μ-loop
 loop-again c =
-    let ahead-by = c .before .before .before .before .before .before .before .before .before .before .before .before .before .before .before .before .before .before .ahead-by in
-    let candidates = c .before .before .before .before .before .before .before .before .before .before .before .before .before .before .before .before .before .candidates in
     let loop = c .before .before .before .before .before .before .before .loop in
     let if1 = c .before .before .before .before .before .if1 in
     let if2 = c .before .before .before .before .if2 in
     let cuts3 = c .before .before .cuts3 in
-    let on = not-ended (candidates .result .first .0) (candidates .result .end .0) (ahead-by .result) (loop .i) (loop .met) (if1 .left) in
     let inv = loop .inv .0 in (
       record {
-        stand = stand-made _ _ _ _ _ _ _ (inv .stand) on (if2 .taken);
+        stand = stand-made (inv .stand) (if1 .left) (if2 .taken);
         told = inv .told;
         room = same-len-mid (loop .made) (loop .made + 1 - loop .made) (loop .cuts) (c .before .put-cuts .last .1 .1 .1 .1 .1 .0) (c .before .put-cuts .kept .1 .1 .1 .1 .1 .0) ∙ inv .room;
         are = more-put _ _ (loop .made) (loop .cuts) _ (inv .are) (sym (cuts3 .given .1)) (c .before .put-cuts .ensures);
@@ -202,11 +191,9 @@ add-i c = search needs
 
 loop-less-2 : tie.Need-loop-less-2 Inv-loop μ-loop
 loop-less-2 c =
-    let ahead-by = c .before .before .before .before .before .before .before .before .before .before .before .before .before .before .before .before .ahead-by in
-    let candidates = c .before .before .before .before .before .before .before .before .before .before .before .before .before .before .before .candidates in
     let loop = c .before .before .before .before .before .loop in
     let if1 = c .before .before .before .if1 in
-    let on = not-ended (candidates .result .first .0) (candidates .result .end .0) (ahead-by .result) (loop .i) (loop .met) (if1 .left) in omega (arith, on .inside)
+    looked-less (loop .inv .0 .stand) (if1 .left)
 
 loop-again-2 : tie.Need-loop-again-2 Inv-loop μ-loop
 loop-again-2 c =
@@ -216,16 +203,12 @@ loop-again-2 c =
     let loop = c .before .before .before .before .before .loop in
     let if1 = c .before .before .before .if1 in
     let if2 = c .before .before .if2 in
-    let first = candidates .result .first .0 in
-    let end = candidates .result .end .0 in
-    let ahead = ahead-by .result in
-    let on = not-ended first end ahead (loop .i) (loop .met) (if1 .left) in
     let inv = loop .inv .0 in
     let x = cut-read _ _ _ _ (loop .i) (inv .are) (omega (arith, if2 .left)) in
-    let y = cut-read _ _ _ _ (loop .i + ahead) (inv .are) (if2 .left) in (
+    let y = cut-read _ _ _ _ (loop .i + ahead-by .result) (inv .are) (if2 .left) in (
       record {
-        stand = rw (c .met-by .ensures) (stand-met _ _ _ _ _ _ _ (inv .stand) on (c .before .hits .result) (if2 .left));
-        told = rw (c .met-by .ensures) (told-next first end _ (args .goal) _ (loop .met) (loop .i) (ahead-by .ensures .0) (on .inside) (inv .told) x y (c .before .hits .ensures));
+        stand = rw (c .met-by .ensures) (stand-met (inv .stand) (if1 .left) (c .before .hits .result) (if2 .left));
+        told = rw (c .met-by .ensures) (told-next (candidates .result .first .0) (candidates .result .end .0) _ (args .goal) _ (loop .met) (loop .i) (ahead-by .ensures .0) (still-inside (inv .stand) (if1 .left)) (inv .told) x y (c .before .hits .ensures));
         room = inv .room;
         are = inv .are;
       },
