@@ -94,7 +94,8 @@ static void every_combination(void)
 static void random_calls(void)
 {
     struct window_call call;
-    for (size_t i = 0; i < 10 * cases; i++) {
+    size_t n = (full_run ? 130 : 10) * cases; // with the other tests a million, in the full run
+    for (size_t i = 0; i < n; i++) {
         make_call(&call, any_token, anything_or_misfit);
         compare(&call);
     }
