@@ -34,17 +34,16 @@ loop-less c = search needs
 
 loop-again : tie.Need-loop-again Inv-loop μ-loop
 loop-again c =
-    let args = c .before .before .before .before .before .before .args in
-    let loop = c .before .before .before .loop in
-    let l = loop in
-    (search needs, (omega arith, (rounds-more (args .keys .now) (l .i) (args .blocks .first) (l .inv .1 .1 .0) (c .four-rounds .ensures .0), (rounds-more (args .keys .now) (l .i) (args .blocks .second) (l .inv .1 .1 .1 .0) (c .four-rounds .ensures .1 .0), (rounds-more (args .keys .now) (l .i) (args .blocks .third) (l .inv .1 .1 .1 .1 .0) (c .four-rounds .ensures .1 .1 .0), (rounds-more (args .keys .now) (l .i) (args .blocks .fourth) (l .inv .1 .1 .1 .1 .1 .0) (c .four-rounds .ensures .1 .1 .1 .0), rounds-more (args .keys .now) (l .i) (args .blocks .fifth) (l .inv .1 .1 .1 .1 .1 .1) (c .four-rounds .ensures .1 .1 .1 .1)))))))
+    let inv = c .before .before .before .loop .inv .1 .1 in
+    let made = c .four-rounds .ensures in
+    (search needs, (omega arith, (rounds-more _ _ _ (inv .0) (made .0), (rounds-more _ _ _ (inv .1 .0) (made .1 .0), (rounds-more _ _ _ (inv .1 .1 .0) (made .1 .1 .0), (rounds-more _ _ _ (inv .1 .1 .1 .0) (made .1 .1 .1 .0), rounds-more _ _ _ (inv .1 .1 .1 .1) (made .1 .1 .1 .1)))))))
 
 returns : tie.Need-returns Inv-loop μ-loop
 returns c =
     let loop = c .before .loop in
-    let l = loop in
-    let e : l .i ≡ 32 = omega arith in
-    (rw e at (l .inv .1 .1 .0), (rw e at (l .inv .1 .1 .1 .0), (rw e at (l .inv .1 .1 .1 .1 .0), (rw e at (l .inv .1 .1 .1 .1 .1 .0), rw e at (l .inv .1 .1 .1 .1 .1 .1)))))
+    let inv = loop .inv .1 .1 in
+    let e : loop .i ≡ 32 = omega arith in
+    (rw e at (inv .0), (rw e at (inv .1 .0), (rw e at (inv .1 .1 .0), (rw e at (inv .1 .1 .1 .0), rw e at (inv .1 .1 .1 .1)))))
 
 pub five-blocks-spec : {M : Type 1} → statement M
 five-blocks-spec =

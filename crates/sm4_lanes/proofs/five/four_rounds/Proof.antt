@@ -39,90 +39,64 @@ shared-slice-read-kd : tie.Need-shared-slice-read-kd
 shared-slice-read-kd c = search needs
 
 round-requires : tie.Need-round-requires
-round-requires c κs = c .before .before .before .before .before .before .before .before .before .before .before .pre .0
+round-requires c κs = search needs
 
 round-requires-2 : tie.Need-round-requires-2
-round-requires-2 c κs = c .before .before .before .before .before .before .before .before .before .before .before .before .pre .0
+round-requires-2 c κs = round-requires (c .before) κs
 
 round-requires-3 : tie.Need-round-requires-3
-round-requires-3 c κs = c .before .before .before .before .before .before .before .before .before .before .before .before .before .pre .0
+round-requires-3 c κs = round-requires-2 (c .before) κs
 
 round-requires-4 : tie.Need-round-requires-4
-round-requires-4 c κs = c .before .before .before .before .before .before .before .before .before .before .before .before .before .before .pre .0
+round-requires-4 c κs = round-requires-3 (c .before) κs
 
 round-requires-5 : tie.Need-round-requires-5
-round-requires-5 c κs = c .before .before .before .before .before .before .before .before .before .before .before .before .before .before .before .pre .0
+round-requires-5 c κs = round-requires-4 (c .before) κs
 
 round-requires-6 : tie.Need-round-requires-6
-round-requires-6 c κs = c .before .before .before .before .before .before .before .before .before .before .before .before .before .before .before .before .pre .0
+round-requires-6 c κs = round-requires-5 (c .before) κs
 
 round-requires-7 : tie.Need-round-requires-7
-round-requires-7 c κs = c .before .before .before .before .before .before .before .before .before .before .before .before .before .before .before .before .before .pre .0
+round-requires-7 c κs = round-requires-6 (c .before) κs
 
 round-requires-8 : tie.Need-round-requires-8
-round-requires-8 c κs =
-    let given = c .before .before .before .before .before .before .before .before .before .before .before .before .before .before .before .before .before .before .pre in
-    given .0
+round-requires-8 c κs = round-requires-7 (c .before) κs
 
 round-requires-9 : tie.Need-round-requires-9
-round-requires-9 c κs =
-    let given = c .before .before .before .before .before .before .before .before .before .before .before .before .before .before .before .before .before .before .before .pre in
-    given .0
+round-requires-9 c κs = round-requires-8 (c .before) κs
 
 round-requires-10 : tie.Need-round-requires-10
-round-requires-10 c κs =
-    let given = c .before .before .before .before .before .before .before .before .before .before .before .before .before .before .before .before .before .before .before .before .pre in
-    given .0
+round-requires-10 c κs = round-requires-9 (c .before) κs
 
 round-requires-11 : tie.Need-round-requires-11
-round-requires-11 c κs =
-    let given = c .before .before .before .before .before .before .before .before .before .before .before .before .before .before .before .before .before .before .before .before .before .pre in
-    given .0
+round-requires-11 c κs = round-requires-10 (c .before) κs
 
 round-requires-12 : tie.Need-round-requires-12
-round-requires-12 c κs =
-    let given = c .before .before .before .before .before .before .before .before .before .before .before .before .before .before .before .before .before .before .before .before .before .before .pre in
-    given .0
+round-requires-12 c κs = round-requires-11 (c .before) κs
 
 round-requires-13 : tie.Need-round-requires-13
-round-requires-13 c κs =
-    let given = c .before .before .before .before .before .before .before .before .before .before .before .before .before .before .before .before .before .before .before .before .before .before .before .pre in
-    given .0
+round-requires-13 c κs = round-requires-12 (c .before) κs
 
 round-requires-14 : tie.Need-round-requires-14
-round-requires-14 c κs =
-    let pre = c .before .before .before .before .before .before .before .before .before .before .before .before .before .before .before .before .before .before .before .before .before .before .before .before .pre in
-    pre .0
+round-requires-14 c κs = round-requires-13 (c .before) κs
 
 round-requires-15 : tie.Need-round-requires-15
-round-requires-15 c κs =
-    let pre = c .before .before .before .before .before .before .before .before .before .before .before .before .before .before .before .before .before .before .before .before .before .before .before .before .before .pre in
-    pre .0
+round-requires-15 c κs = round-requires-14 (c .before) κs
 
 round-requires-16 : tie.Need-round-requires-16
-round-requires-16 c κs =
-    let pre = c .before .before .before .before .before .before .before .before .before .before .before .before .before .before .before .before .before .before .before .before .before .before .before .before .before .before .pre in
-    pre .0
+round-requires-16 c κs = round-requires-15 (c .before) κs
 
 round-requires-17 : tie.Need-round-requires-17
-round-requires-17 c κs =
-    let pre = c .before .before .before .before .before .before .before .before .before .before .before .before .before .before .before .before .before .before .before .before .before .before .before .before .before .before .before .pre in
-    pre .0
+round-requires-17 c κs = round-requires-16 (c .before) κs
 
 round-requires-18 : tie.Need-round-requires-18
-round-requires-18 c κs =
-    let pre = c .before .before .before .before .before .before .before .before .before .before .before .before .before .before .before .before .before .before .before .before .before .before .before .before .before .before .before .before .pre in
-    pre .0
+round-requires-18 c κs = round-requires-17 (c .before) κs
 
 round-requires-19 : tie.Need-round-requires-19
-round-requires-19 c κs =
-    let pre = c .before .before .before .before .before .before .before .before .before .before .before .before .before .before .before .before .before .before .before .before .before .before .before .before .before .before .before .before .before .pre in
-    pre .0
+round-requires-19 c κs = round-requires-18 (c .before) κs
 
 round-requires-20 : tie.Need-round-requires-20
-round-requires-20 c κs =
-    let pre = c .before .before .before .before .before .before .before .before .before .before .before .before .before .before .before .before .before .before .before .before .before .before .before .before .before .before .before .before .before .before .pre in
-    pre .0
+round-requires-20 c κs = round-requires-19 (c .before) κs
 
 state-of-requires : tie.Need-state-of-requires
 state-of-requires c κs = search needs
@@ -141,31 +115,39 @@ state-of-requires-5 c κs = search needs
 
 returns : tie.Need-returns
 returns c =
-    let args = c .before .before .before .before .before .before .before .before .before .before .before .before .before .before .before .before .before .before .before .before .before .before .before .before .before .before .before .before .before .before .before .before .before .before .before .before .args in
-    let round = c .before .before .before .before .before .before .before .before .before .before .before .before .before .before .before .before .before .before .before .before .before .before .before .before .round in
-    let round2 = c .before .before .before .before .before .before .before .before .before .before .before .before .before .before .before .before .before .before .before .before .before .before .before .round2 in
-    let round3 = c .before .before .before .before .before .before .before .before .before .before .before .before .before .before .before .before .before .before .before .before .before .before .round3 in
-    let round4 = c .before .before .before .before .before .before .before .before .before .before .before .before .before .before .before .before .before .before .before .before .before .round4 in
-    let round5 = c .before .before .before .before .before .before .before .before .before .before .before .before .before .before .before .before .before .before .before .before .round5 in
-    let round6 = c .before .before .before .before .before .before .before .before .before .before .before .before .before .before .before .before .before .before .before .round6 in
-    let round7 = c .before .before .before .before .before .before .before .before .before .before .before .before .before .before .before .before .before .before .round7 in
-    let round8 = c .before .before .before .before .before .before .before .before .before .before .before .before .before .before .before .before .before .round8 in
-    let round9 = c .before .before .before .before .before .before .before .before .before .before .before .before .before .before .before .before .round9 in
-    let round10 = c .before .before .before .before .before .before .before .before .before .before .before .before .before .before .before .round10 in
-    let round11 = c .before .before .before .before .before .before .before .before .before .before .before .before .before .before .round11 in
-    let round12 = c .before .before .before .before .before .before .before .before .before .before .before .before .before .round12 in
-    let round13 = c .before .before .before .before .before .before .before .before .before .before .before .before .round13 in
-    let round14 = c .before .before .before .before .before .before .before .before .before .before .before .round14 in
-    let round15 = c .before .before .before .before .before .before .before .before .before .before .round15 in
-    let round16 = c .before .before .before .before .before .before .before .before .before .round16 in
-    let round17 = c .before .before .before .before .before .before .before .before .round17 in
-    let round18 = c .before .before .before .before .before .before .before .round18 in
-    let round19 = c .before .before .before .before .before .before .round19 in
-    let round20 = c .before .before .before .before .before .round20 in
-    let quad = c .before .before .before .before .state-of in
-    let quad2 = c .before .before .before .state-of2 in
-    let quad3 = c .before .before .state-of3 in
-    (quad .ensures ∙ four-steps linear (args .keys .now) (args .i) (args .s .first) (round .ensures) (round6 .ensures) (round11 .ensures) (round16 .ensures), (quad2 .ensures ∙ four-steps linear (args .keys .now) (args .i) (args .s .second) (round2 .ensures) (round7 .ensures) (round12 .ensures) (round17 .ensures), (quad3 .ensures ∙ four-steps linear (args .keys .now) (args .i) (args .s .third) (round3 .ensures) (round8 .ensures) (round13 .ensures) (round18 .ensures), (c .before .state-of4 .ensures ∙ four-steps linear (args .keys .now) (args .i) (args .s .fourth) (round4 .ensures) (round9 .ensures) (round14 .ensures) (round19 .ensures), c .state-of5 .ensures ∙ four-steps linear (args .keys .now) (args .i) (args .s .fifth) (round5 .ensures) (round10 .ensures) (round15 .ensures) (round20 .ensures)))))
+    let wd = c .before .before .before .before .before in
+    let vd = wd .before in
+    let ud = vd .before in
+    let qd = ud .before in
+    let pd = qd .before in
+    let wc = pd .before in
+    let vc = wc .before in
+    let uc = vc .before in
+    let qc = uc .before in
+    let pc = qc .before in
+    let wb = pc .before in
+    let vb = wb .before in
+    let ub = vb .before in
+    let qb = ub .before in
+    let pb = qb .before in
+    let wa = pb .before in
+    let va = wa .before in
+    let ua = va .before in
+    let qa = ua .before in
+    let pa = qa .before in
+    let args = pa .before .before .before .before .before .before .before .before .before .before .before .before .args in (
+      c .before .before .before .before .state-of .ensures ∙ four-steps linear (args .keys .now) (args .i) (args .s .first) (pa .round .ensures) (pb .round6 .ensures) (pc .round11 .ensures) (pd .round16 .ensures),
+      (
+        c .before .before .before .state-of2 .ensures ∙ four-steps linear (args .keys .now) (args .i) (args .s .second) (qa .round2 .ensures) (qb .round7 .ensures) (qc .round12 .ensures) (qd .round17 .ensures),
+        (
+          c .before .before .state-of3 .ensures ∙ four-steps linear (args .keys .now) (args .i) (args .s .third) (ua .round3 .ensures) (ub .round8 .ensures) (uc .round13 .ensures) (ud .round18 .ensures),
+          (
+            c .before .state-of4 .ensures ∙ four-steps linear (args .keys .now) (args .i) (args .s .fourth) (va .round4 .ensures) (vb .round9 .ensures) (vc .round14 .ensures) (vd .round19 .ensures),
+            c .state-of5 .ensures ∙ four-steps linear (args .keys .now) (args .i) (args .s .fifth) (wa .round5 .ensures) (wb .round10 .ensures) (wc .round15 .ensures) (wd .round20 .ensures),
+          ),
+        ),
+      ),
+    )
 
 pub four-rounds-spec : {M : Type 1} → statement M
 four-rounds-spec =

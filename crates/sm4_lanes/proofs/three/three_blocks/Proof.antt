@@ -4,8 +4,8 @@ use borrow.Author.Needs.{needs}
 use native.Mathlib.Omega.{arith}
 use mathlib.Core.Path.{_≡_, refl}
 use Prim.Native.Nat.{_≤_, _-_, _%_}
-use Rattle.sm4_lanes.proofs.few.three_blocks.Statement.{statement}
-use Rattle.sm4_lanes.proofs.few.three_blocks.Tie as tie
+use Rattle.sm4_lanes.proofs.three.three_blocks.Statement.{statement}
+use Rattle.sm4_lanes.proofs.three.three_blocks.Tie as tie
 
 abbrev Inv-loop : tie.InvT-loop
 Inv-loop keys table s₀ i₀ s i =
@@ -34,25 +34,17 @@ loop-less : tie.Need-loop-less Inv-loop μ-loop
 loop-less c = search needs
 
 loop-again : tie.Need-loop-again Inv-loop μ-loop
-loop-again c = let a = c .before .before .before .before .before .before .args in
-    let l = c .before .before .before .loop in (
-      search needs,
-      (
-        omega arith,
-        (
-          rounds-more (a .keys .now) (l .i) (a .blocks .first) (l .inv .1 .1 .0) (c .four-rounds .ensures .0),
-          (
-            rounds-more (a .keys .now) (l .i) (a .blocks .second) (l .inv .1 .1 .1 .0) (c .four-rounds .ensures .1 .0),
-            rounds-more (a .keys .now) (l .i) (a .blocks .third) (l .inv .1 .1 .1 .1) (c .four-rounds .ensures .1 .1),
-          ),
-        ),
-      ),
-    )
+loop-again c =
+    let inv = c .before .before .before .loop .inv .1 .1 in
+    let made = c .four-rounds .ensures in
+    (search needs, (omega arith, (rounds-more _ _ _ (inv .0) (made .0), (rounds-more _ _ _ (inv .1 .0) (made .1 .0), rounds-more _ _ _ (inv .1 .1) (made .1 .1)))))
 
 returns : tie.Need-returns Inv-loop μ-loop
-returns c = let l = c .before .loop in
-    let e : l .i ≡ 32 = omega arith in
-    (rw e at (l .inv .1 .1 .0), (rw e at (l .inv .1 .1 .1 .0), rw e at (l .inv .1 .1 .1 .1)))
+returns c =
+    let loop = c .before .loop in
+    let inv = loop .inv .1 .1 in
+    let e : loop .i ≡ 32 = omega arith in
+    (rw e at (inv .0), (rw e at (inv .1 .0), rw e at (inv .1 .1)))
 
 pub three-blocks-spec : {M : Type 1} → statement M
 three-blocks-spec =

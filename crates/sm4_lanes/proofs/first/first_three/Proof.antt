@@ -1,8 +1,8 @@
 use Rattle.sm4.specs.SidesLaws.{sides-keys}
 use Rattle.sm4_lanes.specs.LanesLaws.{lane-state}
 use borrow.Author.Needs.{needs}
-use Rattle.sm4_lanes.proofs.three.first_three.Statement.{statement}
-use Rattle.sm4_lanes.proofs.three.first_three.Tie as tie
+use Rattle.sm4_lanes.proofs.first.first_three.Statement.{statement}
+use Rattle.sm4_lanes.proofs.first.first_three.Tie as tie
 
 sbox-requires : tie.Need-sbox-requires
 sbox-requires c κs = search needs
