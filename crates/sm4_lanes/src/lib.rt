@@ -4,9 +4,12 @@ mod first;
 mod five;
 mod state;
 mod three;
+mod two;
 
 pub use first::first_three;
 pub use five::Five;
 pub use five::five_blocks;
 pub use three::Three;
 pub use three::three_blocks;
+pub use two::Two;
+pub use two::two_blocks;
