@@ -63,7 +63,7 @@ fn three_from(timed: bool, s: u64) -> Three
 }
 
 // The cuts of three last states.
-fn three_cuts(states: Three) -> [u32; 3]
+fn cut_three(states: Three) -> [u32; 3]
     ensures { λ r. ⌜ r ≡ wordsCut (states .first) ∷ wordsCut (states .second) ∷ wordsCut (states .third) ∷ [] ⌝ }
 {
     let a = states.first;
@@ -81,11 +81,11 @@ pub(crate) fn first_cuts(key: &[u8], timed: bool, s: u64, keys: &mut [u32]) -> [
     ensures { λ _. ⌜ now (keys .exit) ≡ prepared (now (key .entry)) ⌝ }
 {
     let blocks = three_from(timed, s);
-    three_cuts(first_three(&key[0..16], blocks, keys))
+    cut_three(first_three(&key[0..16], blocks, keys))
 }
 
 // That of step s, under round keys.
-pub(crate) fn next_cut(keys: &[u32], timed: bool, s: u64) -> u32
+pub(crate) fn one_cut(keys: &[u32], timed: bool, s: u64) -> u32
     requires { ⌜ length (now keys) ≡ 32 ⌝ }
     ensures { λ r. ⌜ r ≡ cutBy (now (keys .entry)) timed s ⌝ }
 {
@@ -93,17 +93,17 @@ pub(crate) fn next_cut(keys: &[u32], timed: bool, s: u64) -> u32
 }
 
 // Those of three steps from s on, under round keys.
-pub(crate) fn few_cuts(keys: &[u32], timed: bool, s: u64) -> [u32; 3]
+pub(crate) fn three_cuts(keys: &[u32], timed: bool, s: u64) -> [u32; 3]
     requires { ⌜ length (now keys) ≡ 32 ⌝ }
     requires { ⌜ s < 2 ^ 63 ⌝ }
     ensures { λ r. ⌜ r ≡ cutsFrom (cutBy (now (keys .entry)) timed) 3 s ⌝ }
 {
     let blocks = three_from(timed, s);
-    three_cuts(three_blocks(keys, blocks))
+    cut_three(three_blocks(keys, blocks))
 }
 
 // Those of five steps from s on, under round keys.
-pub(crate) fn next_cuts(keys: &[u32], timed: bool, s: u64) -> [u32; 5]
+pub(crate) fn five_cuts(keys: &[u32], timed: bool, s: u64) -> [u32; 5]
     requires { ⌜ length (now keys) ≡ 32 ⌝ }
     requires { ⌜ s < 2 ^ 63 ⌝ }
     ensures { λ r. ⌜ r ≡ cutsFrom (cutBy (now (keys .entry)) timed) 5 s ⌝ }

@@ -1,10 +1,10 @@
 // The cuts of consecutive steps under one key: how many are made side by side is decided here, and none is made beyond those asked for.
 use crate::SM3;
-use crate::cuts::few_cuts;
 use crate::cuts::first_cut;
 use crate::cuts::first_cuts;
-use crate::cuts::next_cut;
-use crate::cuts::next_cuts;
+use crate::cuts::five_cuts;
+use crate::cuts::one_cut;
+use crate::cuts::three_cuts;
 use crate::prepared::ciphered;
 use crate::prepared::count_at;
 use crate::prepared::hashed;
@@ -72,14 +72,14 @@ fn put_keyed(
         return 1;
     }
     if 5 <= out.len() {
-        copy_words(&next_cuts(keys, timed, s), out);
+        copy_words(&five_cuts(keys, timed, s), out);
         return 5;
     }
     if 3 <= out.len() {
-        copy_words(&few_cuts(keys, timed, s), out);
+        copy_words(&three_cuts(keys, timed, s), out);
         return 3;
     }
-    out[0] = next_cut(keys, timed, s);
+    out[0] = one_cut(keys, timed, s);
     1
 }
 

@@ -19,8 +19,8 @@ part-first-three-end c = search needs
 first-three-requires : tie.Need-first-three-requires
 first-three-requires c κs = search needs
 
-three-cuts-requires : tie.Need-three-cuts-requires
-three-cuts-requires c κs = search needs
+cut-three-requires : tie.Need-cut-three-requires
+cut-three-requires c κs = search needs
 
 same-length : tie.Need-same-length
 same-length c = search needs
@@ -29,7 +29,7 @@ returns : tie.Need-returns
 returns c = let a = c .before .before .before .before .before .before .before .before .before .args in
     let blocks = c .before .before .before .before .before .before .three-from .ensures in
     let states = c .before .before .before .first-three .ensures in
-    (lane-cuts (prepared (a .key .now)) (a .timed) (a .s) (blocks .0) (blocks .1 .0) (blocks .1 .1) (states .0) (states .1 .0) (states .1 .1 .0) (c .three-cuts .ensures), states .1 .1 .1)
+    (lane-cuts (prepared (a .key .now)) (a .timed) (a .s) (blocks .0) (blocks .1 .0) (blocks .1 .1) (states .0) (states .1 .0) (states .1 .1 .0) (c .cut-three .ensures), states .1 .1 .1)
 
 pub first-cuts-spec : {M : Type 1} → statement M
 first-cuts-spec =
@@ -40,6 +40,6 @@ first-cuts-spec =
     part-first-three-start
     part-first-three-end
     first-three-requires
-    three-cuts-requires
+    cut-three-requires
     same-length
     returns)

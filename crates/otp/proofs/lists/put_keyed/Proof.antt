@@ -25,8 +25,8 @@ returns c =
     let pre = c .before .before .before .before .before .before .before .before .pre in
     (search needs, put-one _ _ _ (pre .1 .1 .1 .1 .1) (cut-chained _ _ _ _ _ (c .before .before .time-at .ensures) (c .before .count-at .ensures) (pre .0) (c .ciphered .ensures)))
 
-next-cuts-requires : tie.Need-next-cuts-requires
-next-cuts-requires c κs = search needs
+five-cuts-requires : tie.Need-five-cuts-requires
+five-cuts-requires c κs = search needs
 
 slice-aggregate-copy-words : tie.Need-slice-aggregate-copy-words
 slice-aggregate-copy-words c = search needs
@@ -42,11 +42,11 @@ returns-2 c =
     let pre = c .before .before .before .before .before .before .before .before .before .before .before .before .pre in
     let if1 = c .before .before .before .before .before .before .before .if1 in
     let if2 = c .before .before .before .before .before .before .if2 in
-    let made = c .before .before .before .before .before .next-cuts .ensures in
+    let made = c .before .before .before .before .before .five-cuts .ensures in
     (search needs, keyed-put _ _ _ _ _ _ _ (if1 .left) (if2 .taken) (c .before .before .copy-words .ensures) (pre .0) (pre .1 .0) (omega arith) made)
 
-few-cuts-requires : tie.Need-few-cuts-requires
-few-cuts-requires c κs = search needs
+three-cuts-requires : tie.Need-three-cuts-requires
+three-cuts-requires c κs = search needs
 
 slice-aggregate-copy-words-2 : tie.Need-slice-aggregate-copy-words-2
 slice-aggregate-copy-words-2 c = search needs
@@ -62,11 +62,11 @@ returns-3 c =
     let pre = c .before .before .before .before .before .before .before .before .before .before .before .before .before .pre in
     let if1 = c .before .before .before .before .before .before .before .before .if1 in
     let if3 = c .before .before .before .before .before .before .if3 in
-    let made = c .before .before .before .before .before .few-cuts .ensures in
+    let made = c .before .before .before .before .before .three-cuts .ensures in
     (search needs, keyed-put _ _ _ _ _ _ _ (if1 .left) (if3 .taken) (c .before .before .copy-words2 .ensures) (pre .0) (pre .1 .0) (omega arith) made)
 
-next-cut-requires : tie.Need-next-cut-requires
-next-cut-requires c κs = search needs
+one-cut-requires : tie.Need-one-cut-requires
+one-cut-requires c κs = search needs
 
 slice-write-out-2 : tie.Need-slice-write-out-2
 slice-write-out-2 c = search needs
@@ -77,7 +77,7 @@ same-length-4 c = search needs
 returns-4 : tie.Need-returns-4
 returns-4 c =
     let pre = c .before .before .before .before .before .before .before .before .pre in
-    (search needs, put-one _ _ _ (pre .1 .1 .1 .1 .1) (c .next-cut .ensures ∙ keyed-cut-is _ _ _ _ _ (c .before .before .before .if1 .left) (pre .0) (pre .1 .0) (omega arith)))
+    (search needs, put-one _ _ _ (pre .1 .1 .1 .1 .1) (c .one-cut .ensures ∙ keyed-cut-is _ _ _ _ _ (c .before .before .before .if1 .left) (pre .0) (pre .1 .0) (omega arith)))
 
 pub put-keyed-spec : {M : Type 1} → statement M
 put-keyed-spec =
@@ -89,17 +89,17 @@ put-keyed-spec =
     slice-write-out
     same-length
     returns
-    next-cuts-requires
+    five-cuts-requires
     slice-aggregate-copy-words
     copy-words-requires
     same-length-2
     returns-2
-    few-cuts-requires
+    three-cuts-requires
     slice-aggregate-copy-words-2
     copy-words-requires-2
     same-length-3
     returns-3
-    next-cut-requires
+    one-cut-requires
     slice-write-out-2
     same-length-4
     returns-4)

@@ -1,8 +1,8 @@
 use borrow.Author.Needs.{needs}
 use native.Mathlib.Omega.{arith}
 use Rattle.otp.specs.StepCutsLaws.{block-cut}
-use Rattle.otp.proofs.cuts.next_cut.Statement.{statement}
-use Rattle.otp.proofs.cuts.next_cut.Tie as tie
+use Rattle.otp.proofs.cuts.one_cut.Statement.{statement}
+use Rattle.otp.proofs.cuts.one_cut.Tie as tie
 
 block-of-requires : tie.Need-block-of-requires
 block-of-requires c κs = search needs
@@ -18,6 +18,6 @@ returns c =
     let a = c .before .before .before .before .args in
     block-cut (a .keys .now) (a .timed) (a .s) (c .before .before .before .before .pre) (omega arith) (c .before .before .block-of .ensures) (c .before .encrypt-words .ensures) (c .cut-words .ensures)
 
-pub next-cut-spec : {M : Type 1} → statement M
-next-cut-spec =
+pub one-cut-spec : {M : Type 1} → statement M
+one-cut-spec =
     tie.close (tie.spec block-of-requires encrypt-words-requires cut-words-requires returns)

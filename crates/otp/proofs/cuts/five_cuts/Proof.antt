@@ -1,7 +1,7 @@
 use Rattle.otp.specs.StepCutsLaws.{five-cuts, lane-cut}
 use borrow.Author.Needs.{needs}
-use Rattle.otp.proofs.cuts.next_cuts.Statement.{statement}
-use Rattle.otp.proofs.cuts.next_cuts.Tie as tie
+use Rattle.otp.proofs.cuts.five_cuts.Statement.{statement}
+use Rattle.otp.proofs.cuts.five_cuts.Tie as tie
 
 block-of-requires : tie.Need-block-of-requires
 block-of-requires c κs = search needs
@@ -62,8 +62,8 @@ returns c =
     (lane-cut _ _ _ (block-of3 .ensures) (states .1 .1 .0) (c .before .before .cut-words3 .ensures)) (lane-cut _ _ _ (block-of4 .ensures) (states .1 .1 .1 .0) (c .before .cut-words4 .ensures))
     (lane-cut _ _ _ (block-of5 .ensures) (states .1 .1 .1 .1) (c .cut-words5 .ensures))
 
-pub next-cuts-spec : {M : Type 1} → statement M
-next-cuts-spec =
+pub five-cuts-spec : {M : Type 1} → statement M
+five-cuts-spec =
     tie.close
     (tie.spec
     block-of-requires
