@@ -1,6 +1,6 @@
 -- Cuts of consecutive steps: they are the password's, and pieces of them are put one behind the other.
 use Prim.Native.Nat.{ℕ, _+_, _-_, _^_, _≤_, _<_, zero-le}
-use mathlib.Core.Path.{_≡_, refl, sym, _∙_}
+use mathlib.Core.Path.{_≡_, refl, sym, ap, _∙_}
 use mathlib.Core.Bool.{Bool, true, _&&_}
 use mathlib.Core.List.{List, [], _∷_, _++_, append-assoc, append-nil}
 use native.Mathlib.Nat.{not-suc-le-zero}
@@ -38,7 +38,7 @@ module _ (algorithm : ℕ) (key challenge : List ℕ) (timed : Bool) (s : ℕ) w
     unfolding stepCut stepId
     hashed-cut-is a = rw (drop-of-length-le challenge none) (keyed-hashed algorithm key (filled (stepId timed s)) a)
 
-    pub keyed-cut-is : {keys : List ℕ} → (algorithm ≡ algorithmSm3 → ⊥) → keys ≡ prepared key → s < 2 ^ 64 → cutBy keys timed s ≡ stepCut algorithm key challenge timed s
+    keyed-cut-is : {keys : List ℕ} → (algorithm ≡ algorithmSm3 → ⊥) → keys ≡ prepared key → s < 2 ^ 64 → cutBy keys timed s ≡ stepCut algorithm key challenge timed s
     unfolding stepCut stepId
     keyed-cut-is a e h = rw (drop-of-length-le challenge none, e) (sym (step-cut key timed s h) ∙ keyed-chained algorithm key (filled (stepId timed s)) a)
 
@@ -64,7 +64,7 @@ module _ (cutAt : ℕ → ℕ) (s : ℕ) where
   put-one [] h e = absurd (not-suc-le-zero h)
   put-one (c ∷ out) h e = record { fits = h; are = rw e }
 
-  put-list : (n : ℕ) (out : List ℕ) {made after : List ℕ} → n ≤ length out → made ≡ cutsFrom cutAt n s → after ≡ made ++ drop (length made) out → Put cutAt n s out after
+  pub put-list : (n : ℕ) (out : List ℕ) {made after : List ℕ} → n ≤ length out → made ≡ cutsFrom cutAt n s → after ≡ made ++ drop (length made) out → Put cutAt n s out after
   put-list n out h e p = record { fits = h; are = p ∙ rw (e, length-cutsFrom cutAt n s) }
 
   pub put-length : {n : ℕ} {out after : List ℕ} → Put cutAt n s out after → length after ≡ length out
@@ -102,18 +102,19 @@ module _ (cutAt : ℕ → ℕ) (s : ℕ) where
         put-all (omega arith) (put-more q)
 
 -- a piece made without a challenge
-module _ (algorithm : ℕ) (key challenge : List ℕ) (timed : Bool) (n s : ℕ) (out : List ℕ) {made after : List ℕ}
-    (none : length challenge ≤ 0) (fits : n ≤ length out) (copied : after ≡ made ++ drop (length made) out) where
-  pub hashed-put : algorithm ≡ algorithmSm3 → made ≡ cutsFrom (hashedCut key timed) n s → Put (stepCut algorithm key challenge timed) n s out after
-  hashed-put a e =
+module _ (algorithm : ℕ) (key challenge : List ℕ) (timed : Bool) (n s : ℕ) (out : List ℕ) {after : List ℕ} (none : length challenge ≤ 0) where
+  pub hashed-put : {made : List ℕ} → n ≤ length out → after ≡ made ++ drop (length made) out → algorithm ≡ algorithmSm3
+      → made ≡ cutsFrom (hashedCut key timed) n s → Put (stepCut algorithm key challenge timed) n s out after
+  hashed-put fits copied a e =
       let cutAt = stepCut algorithm key challenge timed in
       put-list cutAt s n out fits (e ∙ same-cuts (hashedCut key timed) cutAt n s (s + n) (omega arith) (λ x l. hashed-cut-is algorithm key challenge timed x none a)) copied
 
-  pub keyed-put : {keys : List ℕ} → (algorithm ≡ algorithmSm3 → ⊥) → keys ≡ prepared key → s + n ≤ 2 ^ 64 → made ≡ cutsFrom (cutBy keys timed) n s
+  pub keyed-put : {keys : List ℕ} → (algorithm ≡ algorithmSm3 → ⊥) → keys ≡ prepared key → s + n ≤ 2 ^ 64 → Put (cutBy keys timed) n s out after
       → Put (stepCut algorithm key challenge timed) n s out after
-  keyed-put {keys} a k h e =
+  keyed-put {keys} a k h p =
       let cutAt = stepCut algorithm key challenge timed in
-      put-list cutAt s n out fits (e ∙ same-cuts (cutBy keys timed) cutAt n s (2 ^ 64) h (λ x l. keyed-cut-is algorithm key challenge timed x none a k l)) copied
+      let e = same-cuts (cutBy keys timed) cutAt n s (2 ^ 64) h (λ x l. keyed-cut-is algorithm key challenge timed x none a k l) in
+      record { fits = p .fits; are = p .are ∙ ap (λ (cuts : List ℕ). cuts ++ drop n out) e }
 
 -- where four are made
 pub four-left : (challenge out : List ℕ) → eqb (length challenge) 0 && leb 4 (length out) ≡ true → (length challenge ≤ 0) × (4 ≤ length out)

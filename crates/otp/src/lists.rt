@@ -17,7 +17,7 @@ ghost use Prim.Native.Nat.{_+_, _^_, _≤_, _<_};
 ghost use lib.ListN.{length};
 ghost use Rattle.otp.specs.Password.{algorithmSm3};
 ghost use Rattle.otp.specs.Chain.{prepared};
-ghost use Rattle.otp.specs.StepCuts.{cutsFrom};
+ghost use Rattle.otp.specs.StepCuts.{cutBy, cutsFrom};
 ghost use Rattle.otp.specs.CutLists.{stepCut, Ready, Put};
 
 // How a token's steps are cut: by which algorithm, and whether a step is a time T or a count C.
@@ -48,29 +48,15 @@ fn put_hashed(maker: Maker, key: &[u8], challenge: &[u8], s: u64, out: &mut [u32
     1
 }
 
-// By SM4: five side by side, three, or one; with a challenge one.
-fn put_keyed(
-    maker: Maker,
-    key: &[u8],
-    keys: &[u32],
-    challenge: &[u8],
-    s: u64,
-    out: &mut [u32],
-) -> usize
-    requires { ⌜ (maker .algorithm ≡ algorithmSm3 → ⊥) ⌝ }
-    requires { ⌜ now keys ≡ prepared (now key) ⌝ }
+// By SM4 without a challenge: five side by side, three, or one.
+fn put_keyed(keys: &[u32], timed: bool, s: u64, out: &mut [u32]) -> usize
     requires { ⌜ length (now keys) ≡ 32 ⌝ }
-    requires { ⌜ length (now challenge) ≤ 32 ⌝ }
     requires { ⌜ s < 2 ^ 63 ⌝ }
     requires { ⌜ 0 < length (now out) ⌝ }
     ensures { λ r. ⌜ 0 < r ⌝ }
-    ensures { λ r. ⌜ Put (stepCut (maker .algorithm) (now (key .entry)) (now (challenge .entry)) (maker .timed)) r s (now (out .entry)) (now (out .exit)) ⌝ }
+    ensures { λ r. ⌜ r ≤ 5 ⌝ }
+    ensures { λ r. ⌜ Put (cutBy (now (keys .entry)) timed) r s (now (out .entry)) (now (out .exit)) ⌝ }
 {
-    let timed = maker.timed;
-    if 0 < challenge.len() {
-        out[0] = ciphered(key, keys, time_at(timed, s), count_at(timed, s), challenge);
-        return 1;
-    }
     if 5 <= out.len() {
         copy_words(&five_cuts(keys, timed, s), out);
         return 5;
@@ -83,7 +69,7 @@ fn put_keyed(
     1
 }
 
-// Puts the cuts of some steps from s on at the front of out, and answers how many.
+// Puts the cuts of some steps from s on at the front of out, and answers how many: by SM4 with a challenge one.
 fn put_some(
     maker: Maker,
     key: &[u8],
@@ -103,7 +89,12 @@ fn put_some(
     if maker.algorithm == SM3 {
         return put_hashed(maker, key, challenge, s, out);
     }
-    put_keyed(maker, key, ready, challenge, s, out)
+    let timed = maker.timed;
+    if 0 < challenge.len() {
+        out[0] = ciphered(key, ready, time_at(timed, s), count_at(timed, s), challenge);
+        return 1;
+    }
+    put_keyed(ready, timed, s, out)
 }
 
 // Makes a fresh key ready, and puts the cuts that are made beside it: by SM4 without a challenge three, or one. Answers how many.

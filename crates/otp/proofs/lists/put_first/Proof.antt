@@ -1,8 +1,8 @@
 use borrow.Author.Needs.{needs}
-use mathlib.Core.Path.{refl, _∙_}
+use mathlib.Core.Path.{refl}
 use native.Mathlib.Omega.{arith}
 use Rattle.otp.specs.ChainLaws.{keys-length, keys-put}
-use Rattle.otp.specs.CutListsLaws.{keyed-cut-is, put-none, put-one, keyed-put}
+use Rattle.otp.specs.CutListsLaws.{put-none, put-one, put-list, keyed-put}
 use Rattle.otp.proofs.lists.put_first.Statement.{statement}
 use Rattle.otp.proofs.lists.put_first.Tie as tie
 
@@ -60,7 +60,8 @@ returns-3 c =
     let if2 = c .before .before .before .before .before .before .before .before .before .before .if2 in
     let if3 = c .before .before .before .before .before .before .before .before .before .if3 in
     let made = c .before .before .before .before .before .before .before .first-cuts .ensures in
-    (keyed-put _ _ _ _ _ _ _ (if2 .left) (if3 .taken) (c .before .before .copy-words2 .ensures) (if1 .left) refl (omega arith) (made .0), λ n. made .1)
+    let put = put-list _ _ _ _ (if3 .taken) (made .0) (c .before .before .copy-words2 .ensures) in
+    (keyed-put _ _ _ _ _ _ _ (if2 .left) (if1 .left) refl (omega arith) put, λ n. made .1)
 
 first-cut-requires : tie.Need-first-cut-requires
 first-cut-requires c κs = search needs
@@ -80,7 +81,7 @@ returns-4 c =
     let if1 = c .before .before .before .before .before .before .if1 in
     let if2 = c .before .before .before .before .before .if2 in
     let made = c .before .before .first-cut .ensures in
-    (put-one _ _ _ (pre .1 .1 .1) (made .0 ∙ keyed-cut-is _ _ _ _ _ (if2 .left) (if1 .left) refl (omega arith)), λ n. made .1)
+    (keyed-put _ _ _ _ _ _ _ (if2 .left) (if1 .left) refl (omega arith) (put-one _ _ _ (pre .1 .1 .1) (made .0)), λ n. made .1)
 
 pub put-first-spec : {M : Type 1} → statement M
 put-first-spec =
