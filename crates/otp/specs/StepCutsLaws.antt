@@ -47,6 +47,10 @@ cutsFrom-append cutAt (suc n) m s =
     let e : s + 1 + n ≡ s + suc n = omega arith in
     rw (suc-add, cutsFrom-append cutAt n m (s + 1), e)
 
+pub two-cuts : (cutAt : ℕ → ℕ) (s : ℕ) {a b : ℕ} → a ≡ cutAt s → b ≡ cutAt (s + 1) → a ∷ b ∷ [] ≡ cutsFrom cutAt 2 s
+unfolding cutsFrom
+two-cuts cutAt s ea eb = rw (ea, eb)
+
 pub three-cuts : (cutAt : ℕ → ℕ) (s : ℕ) {a b c : ℕ} → a ≡ cutAt s → b ≡ cutAt (s + 1) → c ≡ cutAt (s + 2) → a ∷ b ∷ c ∷ [] ≡ cutsFrom cutAt 3 s
 unfolding cutsFrom
 three-cuts cutAt s ea eb ec = rw (ea, eb, ec) (let e : s + 2 ≡ s + 1 + 1 = omega arith in rw e)

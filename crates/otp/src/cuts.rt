@@ -5,9 +5,11 @@ use sm4::encrypt_words;
 use sm4::sides::sides_from;
 use sm4_lanes::Five;
 use sm4_lanes::Three;
+use sm4_lanes::Two;
 use sm4_lanes::first_three;
 use sm4_lanes::five_blocks;
 use sm4_lanes::three_blocks;
+use sm4_lanes::two_blocks;
 ghost use mathlib.Core.Path.{_≡_};
 ghost use mathlib.Core.List.{[], _∷_};
 ghost use Prim.Native.Nat.{_+_, _^_, _≤_, _<_};
@@ -90,6 +92,22 @@ pub(crate) fn one_cut(keys: &[u32], timed: bool, s: u64) -> u32
     ensures { λ r. ⌜ r ≡ cutBy (now (keys .entry)) timed s ⌝ }
 {
     cut_words(encrypt_words(keys, block_of(timed, s)).output)
+}
+
+// Those of two steps from s on, under round keys.
+pub(crate) fn two_cuts(keys: &[u32], timed: bool, s: u64) -> [u32; 2]
+    requires { ⌜ length (now keys) ≡ 32 ⌝ }
+    requires { ⌜ s < 2 ^ 63 ⌝ }
+    ensures { λ r. ⌜ r ≡ cutsFrom (cutBy (now (keys .entry)) timed) 2 s ⌝ }
+{
+    let blocks = Two {
+        first: block_of(timed, s),
+        second: block_of(timed, s + 1),
+    };
+    let states = two_blocks(keys, blocks);
+    let a = states.first;
+    let b = states.second;
+    [cut_words(a), cut_words(b)]
 }
 
 // Those of three steps from s on, under round keys.

@@ -5,6 +5,7 @@ use crate::cuts::first_cuts;
 use crate::cuts::five_cuts;
 use crate::cuts::one_cut;
 use crate::cuts::three_cuts;
+use crate::cuts::two_cuts;
 use crate::prepared::ciphered;
 use crate::prepared::count_at;
 use crate::prepared::hashed;
@@ -48,7 +49,7 @@ fn put_hashed(maker: Maker, key: &[u8], challenge: &[u8], s: u64, out: &mut [u32
     1
 }
 
-// By SM4 without a challenge: five side by side, three, or one.
+// By SM4 without a challenge: five side by side, three, two, or one.
 fn put_keyed(keys: &[u32], timed: bool, s: u64, out: &mut [u32]) -> usize
     requires { ⌜ length (now keys) ≡ 32 ⌝ }
     requires { ⌜ s < 2 ^ 63 ⌝ }
@@ -64,6 +65,10 @@ fn put_keyed(keys: &[u32], timed: bool, s: u64, out: &mut [u32]) -> usize
     if 3 <= out.len() {
         copy_words(&three_cuts(keys, timed, s), out);
         return 3;
+    }
+    if 2 <= out.len() {
+        copy_words(&two_cuts(keys, timed, s), out);
+        return 2;
     }
     out[0] = one_cut(keys, timed, s);
     1
