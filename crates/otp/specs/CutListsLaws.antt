@@ -3,7 +3,7 @@ use Prim.Native.Nat.{ℕ, _+_, _-_, _^_, _≤_, _<_, zero-le}
 use mathlib.Core.Path.{_≡_, refl, sym, ap, _∙_}
 use mathlib.Core.Bool.{Bool, true, _&&_}
 use mathlib.Core.List.{List, [], _∷_, _++_, append-assoc, append-nil}
-use native.Mathlib.Nat.{not-suc-le-zero}
+use native.Mathlib.Nat.{not-suc-le-zero, sub-zero}
 use native.Mathlib.Omega.{arith}
 use borrow.Author.Tests.{eqb-true, leb-true}
 use lib.Dec.{eqb, leb}
@@ -54,6 +54,10 @@ left-is n out = take-all (length out - n) (drop n out) (rw length-drop (omega ar
 pub length-left : (n : ℕ) (out : List ℕ) → length (leftOf n out) ≡ length out - n
 length-left n out = rw (left-is n out) (length-drop n out)
 
+-- the first n places, as a call is lent them
+abbrev firstOf : ℕ → List ℕ → List ℕ
+firstOf n list = take (n - 0) (drop 0 list)
+
 module _ (cutAt : ℕ → ℕ) (s : ℕ) where
   pub put-none : (out : List ℕ) → Put cutAt 0 s out out
   unfolding cutsFrom
@@ -103,11 +107,13 @@ module _ (cutAt : ℕ → ℕ) (s : ℕ) where
 
 -- a piece made without a challenge
 module _ (algorithm : ℕ) (key challenge : List ℕ) (timed : Bool) (n s : ℕ) (out : List ℕ) {after : List ℕ} (none : length challenge ≤ 0) where
-  pub hashed-put : {made : List ℕ} → n ≤ length out → after ≡ made ++ drop (length made) out → algorithm ≡ algorithmSm3
-      → made ≡ cutsFrom (hashedCut key timed) n s → Put (stepCut algorithm key challenge timed) n s out after
-  hashed-put fits copied a e =
+  -- the first n of the hashes made
+  pub hashed-put : (made : List ℕ) → n ≤ length out → after ≡ firstOf n made ++ drop (length (firstOf n made)) out → algorithm ≡ algorithmSm3
+      → take n made ≡ cutsFrom (hashedCut key timed) n s → Put (stepCut algorithm key challenge timed) n s out after
+  hashed-put made fits copied a e =
       let cutAt = stepCut algorithm key challenge timed in
-      put-list cutAt s n out fits (e ∙ same-cuts (hashedCut key timed) cutAt n s (s + n) (omega arith) (λ x l. hashed-cut-is algorithm key challenge timed x none a)) copied
+      let same = same-cuts (hashedCut key timed) cutAt n s (s + n) (omega arith) (λ x l. hashed-cut-is algorithm key challenge timed x none a) in
+      put-list cutAt s n out fits (e ∙ same) (copied ∙ rw (sub-zero n))
 
   pub keyed-put : {keys : List ℕ} → (algorithm ≡ algorithmSm3 → ⊥) → keys ≡ prepared key → s + n ≤ 2 ^ 64 → Put (cutBy keys timed) n s out after
       → Put (stepCut algorithm key challenge timed) n s out after
@@ -116,8 +122,8 @@ module _ (algorithm : ℕ) (key challenge : List ℕ) (timed : Bool) (n s : ℕ)
       let e = same-cuts (cutBy keys timed) cutAt n s (2 ^ 64) h (λ x l. keyed-cut-is algorithm key challenge timed x none a k l) in
       record { fits = p .fits; are = p .are ∙ ap (λ (cuts : List ℕ). cuts ++ drop n out) e }
 
--- where four are made
-pub four-left : (challenge out : List ℕ) → eqb (length challenge) 0 && leb 4 (length out) ≡ true → (length challenge ≤ 0) × (4 ≤ length out)
-four-left challenge out t =
+-- where several hashes are made
+pub several-left : (challenge out : List ℕ) → eqb (length challenge) 0 && leb 2 (length out) ≡ true → (length challenge ≤ 0) × (2 ≤ length out)
+several-left challenge out t =
     let none = eqb-true (length challenge) 0 (and-left (eqb (length challenge) 0) _ t) in
-    (omega arith, leb-true 4 (length out) (and-right (eqb (length challenge) 0) _ t))
+    (omega arith, leb-true 2 (length out) (and-right (eqb (length challenge) 0) _ t))

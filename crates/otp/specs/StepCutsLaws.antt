@@ -34,6 +34,16 @@ cutsFrom-at cutAt (suc n) s zero h = rw add-zero
 cutsFrom-at cutAt (suc n) s (suc i) h =
     cutsFrom-at cutAt n (s + 1) i (le-of-suc-le-suc h) ∙ ap cutAt (let e : s + 1 + i ≡ s + suc i = omega arith in e)
 
+-- what is at each of n places the cut of its step is the list there
+pub cuts-are : (cutAt : ℕ → ℕ) (n s : ℕ) (r : List ℕ) → n ≤ length r → ((i : ℕ) → i < n → getD r i 0 ≡ cutAt (s + i)) → take n r ≡ cutsFrom cutAt n s
+unfolding cutsFrom
+cuts-are cutAt zero s r l h = refl
+cuts-are cutAt (suc n) s [] l h = absurd (not-suc-le-zero l)
+cuts-are cutAt (suc n) s (x ∷ r) l h =
+    let first : x ≡ cutAt s = h 0 (omega arith) ∙ rw add-zero in
+    let rest = cuts-are cutAt n (s + 1) r (le-of-suc-le-suc l) (λ i u. h (suc i) (omega arith) ∙ ap cutAt (let e : s + suc i ≡ s + 1 + i = omega arith in e)) in
+    ap₂ (λ (y : ℕ) (ys : List ℕ). y ∷ ys) first rest
+
 -- a cut that is another at every step below a bound makes the same list there
 pub same-cuts : (cutAt other : ℕ → ℕ) (n s bound : ℕ) → s + n ≤ bound → ((r : ℕ) → r < bound → cutAt r ≡ other r) → cutsFrom cutAt n s ≡ cutsFrom other n s
 unfolding cutsFrom
@@ -54,14 +64,6 @@ two-cuts cutAt s ea eb = rw (ea, eb)
 pub three-cuts : (cutAt : ℕ → ℕ) (s : ℕ) {a b c : ℕ} → a ≡ cutAt s → b ≡ cutAt (s + 1) → c ≡ cutAt (s + 2) → a ∷ b ∷ c ∷ [] ≡ cutsFrom cutAt 3 s
 unfolding cutsFrom
 three-cuts cutAt s ea eb ec = rw (ea, eb, ec) (let e : s + 2 ≡ s + 1 + 1 = omega arith in rw e)
-
-pub four-cuts : (cutAt : ℕ → ℕ) (s : ℕ) {a b c d : ℕ} → a ≡ cutAt s → b ≡ cutAt (s + 1) → c ≡ cutAt (s + 2) → d ≡ cutAt (s + 3)
-    → a ∷ b ∷ c ∷ d ∷ [] ≡ cutsFrom cutAt 4 s
-unfolding cutsFrom
-four-cuts cutAt s ea eb ec ed =
-    let f : s + 2 ≡ s + 1 + 1 = omega arith in
-    let g : s + 3 ≡ s + 1 + 1 + 1 = omega arith in
-    rw (ea, eb, ec, ed, f, g)
 
 pub five-cuts : (cutAt : ℕ → ℕ) (s : ℕ) {a b c d e : ℕ}
     → a ≡ cutAt s → b ≡ cutAt (s + 1) → c ≡ cutAt (s + 2) → d ≡ cutAt (s + 3) → e ≡ cutAt (s + 4) → a ∷ b ∷ c ∷ d ∷ e ∷ [] ≡ cutsFrom cutAt 5 s

@@ -1,10 +1,11 @@
--- The cuts of four steps by SM3 without a challenge, whose hashes are made side by side.
+-- The cuts of up to four steps by SM3 without a challenge, whose hashes are made side by side.
 use Prim.Native.Nat.{ℕ, _+_, _-_, _*_, _/_, _%_, _^_, _≤_, _<_, zero-le}
 use mathlib.Core.Path.{_≡_, refl, sym, ap, _∙_}
 use mathlib.Core.Bool.{Bool, true, false}
 use mathlib.Core.List.{List, [], _∷_, _++_, append-assoc, append-nil}
 use native.Mathlib.Nat.{zero-add, add-zero, add-comm, mod-eq-of-lt}
 use native.Mathlib.Omega.{arith}
+use borrow.Author.Tests.{lt-ltb, le-ltb}
 use lib.ListN.{length, getD, take, drop, replicate, length-append, length-replicate, replicate-append-replicate}
 use Rattle.words.specs.Bytes.{AreBytes, beAt, beBytes, put}
 use Rattle.words.specs.BytesLaws.{length-beBytes, beBytes-split, beBytes-mod, beAt-lt}
@@ -17,13 +18,13 @@ use Rattle.sm3.specs.Sm3Laws.{words-append, length-padded}
 use Rattle.sm3.specs.PaddingLaws.{last-blocks-one, last-blocks-fill}
 use Rattle.sm3_lanes.specs.Lanes.{laneOf, among, Across, Added, laneSum, laneSums}
 use Rattle.sm3_lanes.specs.LaneLaws.{length-lane, lane-zeros}
-use Rattle.sm3_lanes.specs.MessageLaws.{among-is, across-same, words-are}
+use Rattle.sm3_lanes.specs.MessageLaws.{four-cases, among-is, across-same, words-are}
 use Rattle.sm3_lanes.specs.FourLaws.{one-block}
 use Rattle.otp.specs.Password.{factorBytes, idOf, filled}
 use Rattle.otp.specs.StepCuts.{stepId, hashedCut, cutsFrom}
-use Rattle.otp.specs.StepCutsLaws.{four-cuts}
+use Rattle.otp.specs.StepCutsLaws.{cuts-are}
 use Rattle.otp.specs.HashedLaws.{cut-hash, laid-behind, laid-message}
-use Rattle.otp.specs.StepWords.{idNumber, spanWord, WordPut, StepsPut}
+use Rattle.otp.specs.StepWords.{idNumber, idleNumber, laneNumber, laneWord, WordPut, StepsPut}
 use Rattle.otp.specs.SpanLaws.{placed, span-get}
 
 -- ---- a step's ID
@@ -47,20 +48,32 @@ filled-number false s =
     let low : beBytes 4 x ≡ replicate 4 0 = sym (beBytes-mod 4 x) ∙ rw below four-zeros in
     rw (append-nil, length-beBytes 4 s, beBytes-split 4 4 x, high, low) (simp append-assoc)
 
--- ---- four IDs put side by side
+-- ---- the lanes' numbers
 
-pub word-put : (at : ℕ) (timed : Bool) (s i : ℕ) (w w′ : List ℕ) {n₀ n₁ n₂ n₃ x₀ x₁ x₂ x₃ : ℕ}
-    → n₀ ≡ idNumber timed s → n₁ ≡ idNumber timed (s + 1) → n₂ ≡ idNumber timed (s + 2) → n₃ ≡ idNumber timed (s + 3)
-    → x₀ ≡ spanWord n₀ (8 * (at % 4)) i → x₁ ≡ spanWord n₁ (8 * (at % 4)) i → x₂ ≡ spanWord n₂ (8 * (at % 4)) i → x₃ ≡ spanWord n₃ (8 * (at % 4)) i
-    → Across (at / 4 + i) (among x₀ x₁ x₂ x₃) w w′ → WordPut at timed s i w w′
-word-put at timed s i w w′ {x₀ = x₀} {x₁} {x₂} {x₃} e₀ e₁ e₂ e₃ p₀ p₁ p₂ p₃ =
-    let each : ℕ → ℕ = (λ k. spanWord (idNumber timed (s + k)) (8 * (at % 4)) i) in
-    let first : x₀ ≡ each 0 = p₀ ∙ rw (e₀, add-zero) in
-    across-same (at / 4 + i) (among x₀ x₁ x₂ x₃) each w w′ (among-is each first (p₁ ∙ rw e₁) (p₂ ∙ rw e₂) (p₃ ∙ rw e₃))
+module _ (timed : Bool) (s n l : ℕ) where
+  pub number-used : l < n → laneNumber timed s n l ≡ idNumber timed (s + l)
+  unfolding laneNumber
+  number-used h = rw (lt-ltb l n h)
 
-pub steps-put : (at : ℕ) (timed : Bool) (s : ℕ) (w w₁ w₂ w₃ : List ℕ) → WordPut at timed s 0 w w₁ → WordPut at timed s 1 w₁ w₂ → WordPut at timed s 2 w₂ w₃
-    → StepsPut at timed s w w₃
-steps-put at timed s w w₁ w₂ w₃ high middle low = record { each = λ k h. low .each k h ∙ rw (middle .each k h, high .each k h, add-zero) }
+  pub number-idle : n ≤ l → idleNumber ≡ laneNumber timed s n l
+  unfolding laneNumber
+  number-idle h = rw (le-ltb l n h)
+
+-- an idle lane makes no step's password
+pub idle-no-step : (timed : Bool) (s : ℕ) → s < 2 ^ 63 → idNumber timed s ≡ idleNumber → ⊥
+idle-no-step true s h e = omega arith
+idle-no-step false s h e = omega arith
+
+pub word-put : (at : ℕ) (timed : Bool) (s n i : ℕ) (w w′ : List ℕ) {a b c d : ℕ}
+    → a ≡ laneWord at timed s n i 0 → b ≡ laneWord at timed s n i 1 → c ≡ laneWord at timed s n i 2 → d ≡ laneWord at timed s n i 3
+    → Across (at / 4 + i) (among a b c d) w w′ → WordPut at timed s n i w w′
+word-put at timed s n i w w′ {a} {b} {c} {d} ea eb ec ed =
+    let word = laneWord at timed s n i in
+    across-same (at / 4 + i) (among a b c d) word w w′ (among-is word ea eb ec ed)
+
+pub steps-put : (at : ℕ) (timed : Bool) (s n : ℕ) (w w₁ w₂ w₃ : List ℕ)
+    → WordPut at timed s n 0 w w₁ → WordPut at timed s n 1 w₁ w₂ → WordPut at timed s n 2 w₂ w₃ → StepsPut at timed s n w w₃
+steps-put at timed s n w w₁ w₂ w₃ high middle low = record { each = λ l h. low .each l h ∙ rw (middle .each l h, high .each l h, add-zero) }
 
 -- ---- the block that they share
 
@@ -119,6 +132,9 @@ module _ (key : List ℕ) (timed : Bool) (s : ℕ) (k : length key ≤ 32) where
       let size = message-size in
       rw (e ∙ message-words) (ap wordTotal (one-block message (omega arith)) ∙ sym (cut-hash message))
 
+lane-sum : (w : List ℕ) (l : ℕ) → l < 4 → getD (laneSums w) l 0 ≡ laneSum l w
+lane-sum w = four-cases (λ l. getD (laneSums w) l 0 ≡ laneSum l w) refl refl refl refl
+
 padding-byte : AreBytes (0x80 ∷ [])
 unfolding beBytes
 padding-byte = bytes-beBytes 1 0x80
@@ -144,18 +160,19 @@ module _ (key : List ℕ) (bytes : AreBytes key) (k : length key ≤ 32) where
       beAt-sum 4 whole (shared key) (placed (length key) n) at (λ i. over-zeros key id (behindId key) i ∙ rw (length-beBytes 8 n)) in
       rw (add-comm (beAt 4 (placed (length key) n) at) (beAt 4 (shared key) at), ← sum) (mod-eq-of-lt (beAt-lt 4 whole at are))
 
-  module _ (timed : Bool) (s : ℕ) (w w₁ w₂ : List ℕ) {at : ℕ} {block : List ℕ} (h : s < 2 ^ 63) (z : w ≡ replicate 272 0)
-      (a : at ≡ 0 + length key) (b : block ≡ shared key) (put : StepsPut at timed s w w₁) (added : Added 16 block w₁ w₂) where
-    lane-words : (l : ℕ) → l < 4 → laneSum l w₂ ≡ hashedCut key timed (s + l)
-    lane-words l p =
-        let n = idNumber timed (s + l) in
-        let number : (i : ℕ) → getD (laneOf 68 l w₁) i 0 ≡ beAt 4 (placed (length key) n) (4 * i) =
-        (λ i. rw (put .each l p, a, zero-add) (span-get (length key) n (number-lt timed (s + l) (omega arith)) (laneOf 68 l w) i k (length-lane 68 l w) (λ i. rw z (lane-zeros l 272 i)))) in
-        let word : (i : ℕ) → i < 16 → getD (laneOf 68 l w₂) i 0 ≡ beAt 4 (padded (key ++ filled (stepId timed (s + l))) ++ replicate 64 0) (4 * i) =
-        (λ i q. added .done l i p q ∙ rw (number i, b, padded-number key timed (s + l) k) (number-over n (4 * i))) in
-        lane-cut key timed (s + l) k l w₂ (words-are 16 (laneOf 68 l w₂) (padded (key ++ filled (stepId timed (s + l))) ++ replicate 64 0) (rw (length-lane 68 l w₂) (omega arith)) word)
+  module _ (timed : Bool) (s n : ℕ) (w w₁ w₂ : List ℕ) {at : ℕ} {block : List ℕ} (h : s < 2 ^ 63) (few : n ≤ 4) (z : w ≡ replicate 272 0)
+      (a : at ≡ 0 + length key) (b : block ≡ shared key) (put : StepsPut at timed s n w w₁) (added : Added 16 block w₁ w₂) where
+    lane-words : (l : ℕ) → l < n → laneSum l w₂ ≡ hashedCut key timed (s + l)
+    lane-words l u =
+        let p : l < 4 = omega arith in
+        let x = idNumber timed (s + l) in
+        let number : (i : ℕ) → getD (laneOf 68 l w₁) i 0 ≡ beAt 4 (placed (length key) x) (4 * i) =
+        (λ i. rw (put .each l p, number-used timed s n l u, a, zero-add)
+        (span-get (length key) x (number-lt timed (s + l) (omega arith)) (laneOf 68 l w) i k (length-lane 68 l w) (λ i. rw z (lane-zeros l 272 i)))) in
+        let whole = padded (key ++ filled (stepId timed (s + l))) ++ replicate 64 0 in
+        let word : (i : ℕ) → i < 16 → getD (laneOf 68 l w₂) i 0 ≡ beAt 4 whole (4 * i) =
+        (λ i q. added .done l i p q ∙ rw (number i, b, padded-number key timed (s + l) k) (number-over x (4 * i))) in
+        lane-cut key timed (s + l) k l w₂ (words-are 16 (laneOf 68 l w₂) whole (rw (length-lane 68 l w₂) (omega arith)) word)
 
-    pub cuts-of : {r : List ℕ} → r ≡ laneSums w₂ → r ≡ cutsFrom (hashedCut key timed) 4 s
-    cuts-of e =
-        let first : laneSum 0 w₂ ≡ hashedCut key timed s = lane-words 0 (omega arith) ∙ rw add-zero in
-        e ∙ four-cuts (hashedCut key timed) s first (lane-words 1 (omega arith)) (lane-words 2 (omega arith)) (lane-words 3 (omega arith))
+    pub cuts-of : {r : List ℕ} → r ≡ laneSums w₂ → take n r ≡ cutsFrom (hashedCut key timed) n s
+    cuts-of e = ap (take n) e ∙ cuts-are (hashedCut key timed) n s (laneSums w₂) few (λ l u. lane-sum w₂ l (omega arith) ∙ lane-words l u)

@@ -14,10 +14,9 @@ use crate::steps::hashed_cuts;
 use sm4::round_keys;
 use words::word::copy_words;
 ghost use mathlib.Core.Path.{_≡_};
-ghost use Prim.Native.Nat.{_+_, _^_, _≤_, _<_};
+ghost use Prim.Native.Nat.{_+_, _^_, _≤_, _<_, min};
 ghost use lib.ListN.{length};
 ghost use Rattle.otp.specs.Password.{algorithmSm3};
-ghost use Rattle.otp.specs.Chain.{prepared};
 ghost use Rattle.otp.specs.StepCuts.{cutBy, cutsFrom};
 ghost use Rattle.otp.specs.CutLists.{stepCut, Ready, Put};
 
@@ -30,7 +29,13 @@ pub struct Maker {
 // The words that a key is made ready to: SM4's round keys; SM3 needs none.
 pub const READY: usize = 32;
 
-// By SM3: four side by side, or one; with a challenge one.
+fn smaller(a: usize, b: usize) -> usize
+    ensures { λ r. ⌜ r ≡ min a b ⌝ }
+{
+    if a < b { a } else { b }
+}
+
+// By SM3: four side by side, three or two, or one; with a challenge one.
 fn put_hashed(maker: Maker, key: &[u8], challenge: &[u8], s: u64, out: &mut [u32]) -> usize
     requires { ⌜ maker .algorithm ≡ algorithmSm3 ⌝ }
     requires { ⌜ length (now key) ≤ 32 ⌝ }
@@ -41,9 +46,11 @@ fn put_hashed(maker: Maker, key: &[u8], challenge: &[u8], s: u64, out: &mut [u32
     ensures { λ r. ⌜ Put (stepCut (maker .algorithm) (now (key .entry)) (now (challenge .entry)) (maker .timed)) r s (now (out .entry)) (now (out .exit)) ⌝ }
 {
     let timed = maker.timed;
-    if (challenge.len() == 0) & (4 <= out.len()) {
-        copy_words(&hashed_cuts(key, timed, s), out);
-        return 4;
+    if (challenge.len() == 0) & (2 <= out.len()) {
+        let n = smaller(4, out.len());
+        let cuts = hashed_cuts(key, timed, s, n);
+        copy_words(&cuts[0..n], out);
+        return n;
     }
     out[0] = hashed(key, time_at(timed, s), count_at(timed, s), challenge);
     1

@@ -1,29 +1,39 @@
+use native.Mathlib.Omega.{arith}
 use borrow.Author.Needs.{needs}
-use Rattle.otp.specs.CutListsLaws.{cut-hashed, put-one, hashed-put, four-left}
+use Rattle.otp.specs.CutListsLaws.{cut-hashed, put-one, hashed-put, several-left}
 use Rattle.otp.proofs.lists.put_hashed.Statement.{statement}
 use Rattle.otp.proofs.lists.put_hashed.Tie as tie
+
+smaller-requires : tie.Need-smaller-requires
+smaller-requires c κs = search needs
 
 hashed-cuts-requires : tie.Need-hashed-cuts-requires
 hashed-cuts-requires c κs = search needs
 
-slice-aggregate-copy-words : tie.Need-slice-aggregate-copy-words
-slice-aggregate-copy-words c = search needs
+sub-copy-words : tie.Need-sub-copy-words
+sub-copy-words c = search needs
+
+part-copy-words-start : tie.Need-part-copy-words-start
+part-copy-words-start c = search needs
+
+part-copy-words-end : tie.Need-part-copy-words-end
+part-copy-words-end c = search needs
 
 copy-words-requires : tie.Need-copy-words-requires
-copy-words-requires c κs =
-    let a = c .before .before .before .before .before .before .before .args in
-    let left = four-left (a .challenge .now) (a .out .now) (c .before .before .before .if1 .taken) in
-    search needs
+copy-words-requires c κs = search needs
 
 same-length : tie.Need-same-length
 same-length c = search needs
 
 returns : tie.Need-returns
 returns c =
-    let start = c .before .before .before .before .before .before .before .before .before .before in
-    let left = four-left (start .args .challenge .now) (start .args .out .now) (c .before .before .before .before .before .before .if1 .taken) in
-    let made = c .before .before .before .before .before .hashed-cuts .ensures in
-    (search needs, hashed-put _ _ _ _ _ _ _ (left .0) (left .1) (c .before .before .copy-words .ensures) (start .pre .0) made)
+    let copied = c .before .before in
+    let made = copied .before .before .before .before in
+    let tested = made .before .before in
+    let start = tested .before .before .before .before in
+    let left = several-left (start .args .challenge .now) (start .args .out .now) (tested .if1 .taken) in
+    let n = made .before .smaller .ensures in
+    (omega (arith, left .1, n), hashed-put _ _ _ _ _ _ _ (left .0) _ (omega (arith, n)) (copied .copy-words .ensures) (start .pre .0) (made .hashed-cuts .ensures))
 
 time-at-requires : tie.Need-time-at-requires
 time-at-requires c κs = search needs
@@ -49,8 +59,11 @@ pub put-hashed-spec : {M : Type 1} → statement M
 put-hashed-spec =
     tie.close
     (tie.spec
+    smaller-requires
     hashed-cuts-requires
-    slice-aggregate-copy-words
+    sub-copy-words
+    part-copy-words-start
+    part-copy-words-end
     copy-words-requires
     same-length
     returns

@@ -49,20 +49,18 @@ four-sums-requires c κs = search needs
 
 returns : tie.Need-returns
 returns c =
-    let shared-slice-known = c .before .before .before .before .before .before .before .before .before .before .before .before .before .before .before .before .shared-slice-known in
-    let before = c .before .before .before .before .before .before .before .before .before .before .before .before .before .before .before .before .before in
-    let put-bytes = c .before .before .before .before .before .before .before .before .before .before .before .before .before .before .put-bytes in
-    let pad = c .before .before .before .before .before .before .before .before .before .before .before .pad in
-    let put-steps = c .before .before .before .before .before .before .before .before .put-steps in
-    let add-block = c .before .before .before .before .add-block in
-    let start = before in
-    let key = start .args .key .now in
-    let laid = put-bytes .ensures in
-    let padding = pad .ensures in
-    let block = key-shared key (start .pre .0) (laid .0) (laid .1) (padding .0) (padding .1) in
-    let put = put-steps .ensures in
-    let added = add-block .ensures in
-    cuts-of key (λ i. shared-slice-known .given i .fits) (start .pre .0) (start .args .timed) (start .args .s) _ _ _ (start .pre .1) refl (laid .0) block put added (c .before .four-sums .ensures)
+    let added = c .before .before .before .before in
+    let put = added .before .before .before .before in
+    let padding = put .before .before .before in
+    let laid = padding .before .before .before in
+    let known = laid .before .before in
+    let start = known .before in
+    let a = start .args in
+    let key = a .key .now in
+    let at = laid .put-bytes .ensures in
+    let block = key-shared key (start .pre .0) (at .0) (at .1) (padding .pad .ensures .0) (padding .pad .ensures .1) in
+    cuts-of key (λ i. known .shared-slice-known .given i .fits) (start .pre .0) (a .timed) (a .s) (a .n) _ _ _ (start .pre .1 .0) (start .pre .1 .1) refl (at .0) block
+    (put .put-steps .ensures) (added .add-block .ensures) (c .before .four-sums .ensures)
 
 pub hashed-cuts-spec : {M : Type 1} → statement M
 hashed-cuts-spec =

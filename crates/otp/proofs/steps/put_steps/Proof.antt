@@ -20,7 +20,7 @@ returns c =
     let a = c .before .before .before .before .before .before .before .before .before .before .before .before .before .args in
     let first = c .before .before .before .before .before .before .before .before .before .before .put-word .ensures in
     let second = c .before .before .before .before .before .before .put-word2 .ensures in
-    steps-put (a .at) (a .timed) (a .s) _ _ _ _ first second (c .before .before .put-word3 .ensures)
+    steps-put (a .at) (a .timed) (a .s) (a .n) _ _ _ _ first second (c .before .before .put-word3 .ensures)
 
 pub put-steps-spec : {M : Type 1} → statement M
 put-steps-spec =
