@@ -1,6 +1,6 @@
--- What dl_check gives and leaves: the check of document 01, Part 3, by a token's numbers.
+-- What dl_check gives and leaves: the check of document 01, Part 3, by a token's numbers, with what document 02 adds to it.
 use Prim.Native.Nat.{ℕ}
-use mathlib.Core.Bool.{Bool, _&&_, _||_, cond}
+use mathlib.Core.Bool.{Bool, _&&_, _||_, not, cond}
 use mathlib.Core.List.{List, [], _∷_}
 use lib.Dec.{eqb, leb, ltb}
 use lib.ListN.{length, drop}
@@ -11,12 +11,12 @@ use Rattle.window.specs.declared.Size.{Size}
 use Rattle.window.specs.declared.Size.the-variants.{Small, Medium, Large}
 use Rattle.window.specs.declared.Track.{Track}
 use Rattle.window.specs.declared.Outcome.{Outcome}
-use Rattle.window.specs.declared.Outcome.the-variants.{Accepted, Used, Wrong}
+use Rattle.window.specs.declared.Outcome.the-variants.{Accepted, Several, Used, Wrong}
 use Rattle.window.specs.declared.asked.Asked.{Asked}
 use Rattle.window.specs.declared.asked.Asked.the-variants.{One, Challenged, Two}
 use Rattle.window.specs.PasswordAt.{passwordAt, inRange, hasBy}
-use Rattle.window.specs.TokenCheck.{singleCheck, pairCheck}
-use Rattle.window.specs.Sweep.{computedTo}
+use Rattle.window.specs.TokenCheck.{freshMatches, singleCheck, pairCheck}
+use Rattle.window.specs.Sweep.{computedTo, acceptances}
 use Rattle.row.specs.Row.{trackOk}
 use Rattle.desk.specs.Requests.{clockOk}
 use Rattle.capi.specs.declared.checking.Presented.{Presented}
@@ -77,30 +77,45 @@ digitsRight digits presented following = eqb (length presented) digits && (eqb (
 -- how many passwords it computes (document 02, Ask 2)
 unfoldable pub checkComputed : Track → ℕ → Size → List ℕ → List ℕ → List ℕ → List ℕ → ℕ
 checkComputed k clock size key challenge presented following =
-    cond (digitsRight (k .scheme .digits) presented following) (computedTo k clock size (checkOf k clock size key challenge presented following)) 0
+    cond (digitsRight (k .scheme .digits) presented following) (computedTo (not (eqb (length following) 0)) k clock size (checkOf k clock size key challenge presented following)) 0
 
--- ---- what is left: the code, the accepted step and the count
+-- how many unused steps match (document 02, Ask 5); a pair's check looks for no second
+unfoldable pub checkFresh : Track → ℕ → Size → List ℕ → List ℕ → List ℕ → List ℕ → ℕ
+checkFresh k clock size key challenge presented following =
+    cond (eqb (length following) 0)
+    (freshMatches k clock size (hasBy passwordAt (k .scheme) key challenge presented))
+    (acceptances (checkOf k clock size key challenge presented following))
+
+-- ---- what is left: the code, the accepted step and the two counts
 
 pub record CheckLeft : Type 0 where
   pub code : ℕ
   pub step : List ℕ
   pub computed : List ℕ
+  pub fresh : List ℕ
 
-abbrev pub checked : ℕ → List ℕ → List ℕ → CheckLeft
-checked code step computed = record { code = code; step = step; computed = computed }
+abbrev pub checked : ℕ → List ℕ → List ℕ → List ℕ → CheckLeft
+checked code step computed fresh = record { code = code; step = step; computed = computed; fresh = fresh }
 
 -- an accepted step goes to the first element; any other outcome leaves that output as it was
 abbrev pub outcomeLeft : Outcome → List ℕ → Left
 outcomeLeft (Accepted s) out = left done (s .0 ∷ drop 1 out)
+outcomeLeft Several out = left 0x8001 out
 outcomeLeft Used out = left 0x8004 out
 outcomeLeft Wrong out = left 0x8002 out
 
--- the count goes to the first element of its output, whatever the outcome
-abbrev pub outcomeCounted : Outcome → ℕ → List ℕ → List ℕ → CheckLeft
-outcomeCounted o n step computed = checked (outcomeLeft o step .code) (outcomeLeft o step .out) (n ∷ drop 1 computed)
+-- each count goes to the first element of its output, whatever the outcome
+abbrev pub outcomeCounted : Outcome → ℕ → ℕ → List ℕ → List ℕ → List ℕ → CheckLeft
+outcomeCounted o made matched step computed fresh =
+    checked (outcomeLeft o step .code) (outcomeLeft o step .out) (made ∷ drop 1 computed) (matched ∷ drop 1 fresh)
 
-unfoldable pub checkLeft : Track → ℕ → ℕ → List ℕ → List ℕ → List ℕ → List ℕ → List ℕ → List ℕ → CheckLeft
-checkLeft k clock size key challenge presented following step computed =
-    cond (checkArgumentsOk k clock size key challenge presented following && (ltb 0 (length step) && ltb 0 (length computed)))
-    (outcomeCounted (checkOf k clock (sizeOf size) key challenge presented following) (checkComputed k clock (sizeOf size) key challenge presented following) step computed)
-    (checked badArgument step computed)
+-- every output has room
+abbrev pub roomFor : List ℕ → List ℕ → List ℕ → Bool
+roomFor step computed fresh = ltb 0 (length step) && (ltb 0 (length computed) && ltb 0 (length fresh))
+
+unfoldable pub checkLeft : Track → ℕ → ℕ → List ℕ → List ℕ → List ℕ → List ℕ → List ℕ → List ℕ → List ℕ → CheckLeft
+checkLeft k clock size key challenge presented following step computed fresh =
+    cond (checkArgumentsOk k clock size key challenge presented following && roomFor step computed fresh)
+    (outcomeCounted (checkOf k clock (sizeOf size) key challenge presented following) (checkComputed k clock (sizeOf size) key challenge presented following)
+    (checkFresh k clock (sizeOf size) key challenge presented following) step computed fresh)
+    (checked badArgument step computed fresh)

@@ -16,18 +16,18 @@ use Rattle.otp.specs.Typed.{passwordOk, typedOf}
 use Rattle.otp.specs.TypedLaws.{digits-back, typed-is, typed-bad}
 use Rattle.window.specs.declared.Size.{Size}
 use Rattle.window.specs.declared.Track.{Track}
-use Rattle.window.specs.declared.Outcome.{Outcome}
+use Rattle.window.specs.declared.Swept.{Swept}
 use Rattle.window.specs.declared.asked.Asked.{Asked}
 use Rattle.window.specs.Window.{Sound}
 use Rattle.window.specs.PasswordAt.{passwordAt, inRange}
 use Rattle.window.specs.Asked.{outcomeOf}
-use Rattle.window.specs.Sweep.{computedOf}
+use Rattle.window.specs.Sweep.{computedOf, freshOf}
 use Rattle.row.specs.Row.{trackOk}
 use Rattle.row.specs.RangeLaws.{track-sound}
 use Rattle.desk.specs.Requests.{clockOk}
 use Rattle.capi.specs.declared.checking.Presented.{Presented}
 use Rattle.capi.specs.Stored.{left}
-use Rattle.capi.specs.Checked.{sizeOf, checkNumbersOk, passwordsOk, checkArgumentsOk, askedOf, presentedOf, checkOf, checkComputed, checked, outcomeLeft, outcomeCounted, checkLeft}
+use Rattle.capi.specs.Checked.{sizeOf, checkNumbersOk, passwordsOk, checkArgumentsOk, askedOf, presentedOf, checkOf, checkComputed, checkFresh, checked, outcomeLeft, outcomeCounted, roomFor, checkLeft}
 
 -- ---- what is asked
 
@@ -69,38 +69,38 @@ no-bytes : (s : List ℕ) → length s ≡ 0 → s ≡ []
 no-bytes [] e = refl
 no-bytes (x ∷ s) e = absurd (omega arith)
 
--- what is asked has the outcome of the passwords as presented
-asked-outcome : (k : Track) (clock : ℕ) (size : Size) (key challenge presented following : List ℕ) → passwordsOk challenge presented following ≡ true
-    → outcomeOf passwordAt k clock key challenge (askedOf size challenge presented following) ≡ checkOf k clock size key challenge presented following
-unfolding passwordsOk checkOf
-asked-outcome k clock size key challenge presented following t =
+-- what is asked has the outcome and the fresh matches of the passwords as presented
+asked-found : (k : Track) (clock : ℕ) (size : Size) (key challenge presented following : List ℕ) → passwordsOk challenge presented following ≡ true
+    → (outcomeOf passwordAt k clock key challenge (askedOf size challenge presented following) ≡ checkOf k clock size key challenge presented following)
+    × (freshOf passwordAt k clock key challenge (askedOf size challenge presented following) ≡ checkFresh k clock size key challenge presented following)
+unfolding passwordsOk checkOf checkFresh
+asked-found k clock size key challenge presented following t =
     let first = digits-back presented (and-left _ _ t) in
     by-test (eqb (length following) 0)
     (λ n. by-test (eqb (length challenge) 0)
-    (λ e. rw (n, e, first, no-bytes challenge (eqb-true (length challenge) 0 e)))
-    (λ e. rw (n, e, first)))
+    (λ e. rw (n, e, first, no-bytes challenge (eqb-true (length challenge) 0 e)) (refl, refl))
+    (λ e. rw (n, e, first) (refl, refl)))
     (λ n.
     let rest : eqb (length challenge) 0 && passwordOk following ≡ true = rw n at (and-right (passwordOk presented) _ t) in
-    rw (n, first, digits-back following (and-right (eqb (length challenge) 0) _ rest)))
+    rw (n, first, digits-back following (and-right (eqb (length challenge) 0) _ rest)) (refl, refl))
 
 -- and computes as many
 asked-computed : (k : Track) (clock : ℕ) (size : Size) (key challenge presented following : List ℕ) → passwordsOk challenge presented following ≡ true
     → computedOf passwordAt k clock key challenge (askedOf size challenge presented following) ≡ checkComputed k clock size key challenge presented following
 unfolding computedOf checkComputed
 asked-computed k clock size key challenge presented following t =
-    rw (asked-outcome k clock size key challenge presented following t)
+    rw (asked-found k clock size key challenge presented following t .0)
     (by-test (eqb (length following) 0)
     (λ n. by-test (eqb (length challenge) 0)
     (λ e. rw (n, e, and-true (eqb (length presented) (k .scheme .digits))))
     (λ e. rw (n, e, and-true (eqb (length presented) (k .scheme .digits)))))
     (λ n. rw n))
 
-module _ (k : Track) (clock size : ℕ) (key challenge step computed : List ℕ) {b : Bool} (tested : b ≡ checkNumbersOk k clock size key challenge) where
-  -- both outputs have room
+module _ (k : Track) (clock size : ℕ) (key challenge step computed fresh : List ℕ) {b : Bool} (tested : b ≡ checkNumbersOk k clock size key challenge) where
   abbrev room : Bool
-  room = ltb 0 (length step) && ltb 0 (length computed)
+  room = roomFor step computed fresh
 
-  pub check-refused : (presented following : List ℕ) → not (b && room) ≡ true → checked badArgument step computed ≡ checkLeft k clock size key challenge presented following step computed
+  pub check-refused : (presented following : List ℕ) → not (b && room) ≡ true → checked badArgument step computed fresh ≡ checkLeft k clock size key challenge presented following step computed fresh
   unfolding checkArgumentsOk checkLeft
   check-refused presented following t = rw (← tested, turned b (passwordsOk challenge presented following) room (not-true (b && room) t))
     where
@@ -122,7 +122,10 @@ module _ (k : Track) (clock size : ℕ) (key challenge step computed : List ℕ)
     step-room = ltb-true 0 (length step) (and-left _ _ roomy)
 
     pub computed-room : 0 < length computed
-    computed-room = ltb-true 0 (length computed) (and-right (ltb 0 (length step)) _ roomy)
+    computed-room = ltb-true 0 (length computed) (and-left _ _ (and-right (ltb 0 (length step)) _ roomy))
+
+    pub fresh-room : 0 < length fresh
+    fresh-room = ltb-true 0 (length fresh) (and-right (ltb 0 (length computed)) _ (and-right (ltb 0 (length step)) _ roomy))
 
     -- what the check asks for
     pub check-asked : Sound k clock × (inRange (k .scheme) key challenge ≡ true)
@@ -135,22 +138,24 @@ module _ (k : Track) (clock size : ℕ) (key challenge step computed : List ℕ)
         (track-sound k o clock (ltb-true clock (2 ^ 40) c), i)
 
     module _ (presented following : List ℕ) {z : Size} {x : Presented} (sized : z ≡ sizeOf size) (read : x ≡ presentedOf z challenge presented following) where
-      pub check-unread : x ≡ Presented.Bad → checked badArgument step computed ≡ checkLeft k clock size key challenge presented following step computed
+      pub check-unread : x ≡ Presented.Bad → checked badArgument step computed fresh ≡ checkLeft k clock size key challenge presented following step computed fresh
       unfolding presentedOf checkArgumentsOk checkLeft
       check-unread e =
           by-test (passwordsOk challenge presented following)
           (λ p. let y : Presented.Is (askedOf z challenge presented following) ≡ Presented.Bad = sym (read ∙ rw p) ∙ e in impossible (cc))
           (λ p. rw (p, and-false (checkNumbersOk k clock size key challenge)))
 
-      pub check-made : {asked : Asked} {o : Outcome} {n : ℕ} → x ≡ Presented.Is asked → o ≡ outcomeOf passwordAt k clock key challenge asked → n ≡ computedOf passwordAt k clock key challenge asked
-          → outcomeCounted o n step computed ≡ checkLeft k clock size key challenge presented following step computed
+      pub check-made : {asked : Asked} {r : Swept} → x ≡ Presented.Is asked → r .outcome ≡ outcomeOf passwordAt k clock key challenge asked
+          → r .computed ≡ computedOf passwordAt k clock key challenge asked → r .fresh ≡ freshOf passwordAt k clock key challenge asked
+          → outcomeCounted (r .outcome) (r .computed) (r .fresh) step computed fresh ≡ checkLeft k clock size key challenge presented following step computed fresh
       unfolding presentedOf checkArgumentsOk checkLeft
-      check-made {asked} e m c =
+      check-made {asked} e m c f =
           by-test (passwordsOk challenge presented following)
           (λ p.
           let y : Presented.Is (askedOf z challenge presented following) ≡ Presented.Is asked = sym (read ∙ rw p) ∙ e in
           let a : asked ≡ askedOf z challenge presented following = cc in
-          rw (ranged, p, roomy, m, c, a, asked-outcome k clock z key challenge presented following p, asked-computed k clock z key challenge presented following p, sized))
+          let found = asked-found k clock z key challenge presented following p in
+          rw (ranged, p, roomy, m, c, f, a, found .0, asked-computed k clock z key challenge presented following p, found .1, sized))
           (λ p. let y : Presented.Bad ≡ Presented.Is asked = sym (read ∙ rw p) ∙ e in impossible (cc))
 
 -- the first element is written
@@ -158,7 +163,8 @@ pub write-first : (s : List ℕ) (x : ℕ) → 0 < length s → set s 0 x ≡ x 
 write-first [] x h = absurd (omega arith)
 write-first (y ∷ s) x h = refl
 
--- both outputs are written
-pub both-written : (step computed : List ℕ) (o : Outcome) (n : ℕ) {code : ℕ} {after : List ℕ} → 0 < length computed → left code after ≡ outcomeLeft o step
-    → checked code after (set computed 0 n) ≡ outcomeCounted o n step computed
-both-written step computed o n h e = rw (write-first computed n h) (ap (λ (x : Left). checked (x .code) (x .out) (n ∷ drop 1 computed)) e)
+-- every output is written
+pub all-written : (step computed fresh : List ℕ) (r : Swept) {code : ℕ} {after : List ℕ} → 0 < length computed → 0 < length fresh → left code after ≡ outcomeLeft (r .outcome) step
+    → checked code after (set computed 0 (r .computed)) (set fresh 0 (r .fresh)) ≡ outcomeCounted (r .outcome) (r .computed) (r .fresh) step computed fresh
+all-written step computed fresh r h g e =
+    rw (write-first computed (r .computed) h, write-first fresh (r .fresh) g) (ap (λ (x : Left). checked (x .code) (x .out) (r .computed ∷ drop 1 computed) (r .fresh ∷ drop 1 fresh)) e)

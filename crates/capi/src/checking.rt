@@ -21,6 +21,8 @@ ghost use lib.ListN.{length};
 ghost use Rattle.capi.specs.Stored.{left};
 ghost use Rattle.capi.specs.Checked.{trackOf, sizeOf, presentedOf, checkNumbersOk, checked, outcomeLeft, checkLeft};
 
+const NEXT_WANTED: u16 = 0x8001;
+
 const WRONG: u16 = 0x8002;
 
 const USED: u16 = 0x8004;
@@ -85,12 +87,14 @@ fn put_outcome(outcome: Outcome, step: &mut [u64]) -> u16
             step[0] = s.0;
             DONE
         }
+        Outcome::Several => NEXT_WANTED,
         Outcome::Used => USED,
         Outcome::Wrong => WRONG,
     }
 }
 
-// The check of one presented password, or of two; an accepted step goes to the first element of step, and how many passwords were computed to that of computed.
+// The check of one presented password, or of two. An accepted step goes to the first element of step, how many passwords were computed to that of computed, and
+// how many unused steps matched to that of fresh.
 #[no_mangle]
 pub extern "C" fn dl_check(
     kind: u8,
@@ -107,8 +111,9 @@ pub extern "C" fn dl_check(
     following: &[u8],
     step: &mut [u64],
     computed: &mut [u64],
+    fresh: &mut [u64],
 ) -> u16
-    ensures { λ r. ⌜ checked r (now (step .exit)) (now (computed .exit)) ≡ checkLeft (trackOf kind algorithm digits period next offset) clock size (now (key .entry)) (now (challenge .entry)) (now (presented .entry)) (now (following .entry)) (now (step .entry)) (now (computed .entry)) ⌝ }
+    ensures { λ r. ⌜ checked r (now (step .exit)) (now (computed .exit)) (now (fresh .exit)) ≡ checkLeft (trackOf kind algorithm digits period next offset) clock size (now (key .entry)) (now (challenge .entry)) (now (presented .entry)) (now (following .entry)) (now (step .entry)) (now (computed .entry)) (now (fresh .entry)) ⌝ }
 {
     let track = Track {
         scheme: Scheme {
@@ -121,7 +126,8 @@ pub extern "C" fn dl_check(
         offset: Offset(offset),
     };
     let ok = numbers_ok(track, Seconds(clock), size, key, challenge);
-    if !(ok & ((0 < step.len()) & (0 < computed.len()))) {
+    let room = (0 < step.len()) & ((0 < computed.len()) & (0 < fresh.len()));
+    if !(ok & room) {
         return BAD_ARGUMENT;
     }
     let Presented::Is(asked) = presented_of(size_of(size), challenge, presented, following) else {
@@ -130,5 +136,6 @@ pub extern "C" fn dl_check(
     let swept = check(track, Seconds(clock), key, challenge, asked);
     let outcome = swept.outcome;
     computed[0] = swept.computed;
+    fresh[0] = swept.fresh;
     put_outcome(outcome, step)
 }

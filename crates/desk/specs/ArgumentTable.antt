@@ -12,8 +12,8 @@ use Rattle.otp.specs.Password.{decimals, challengeOk}
 use Rattle.otp.specs.Numbers.{numberFrom}
 use Rattle.otp.specs.Typed.{passwordOk, digitsOf, asPassword}
 use Rattle.window.specs.Window.{timeCandidate, candidate, beyond}
-use Rattle.window.specs.Check.{smallest, checked}
-use Rattle.window.specs.TokenCheck.{singleCheck, pairCheck}
+use Rattle.window.specs.Check.{smallest, howMany, checked}
+use Rattle.window.specs.TokenCheck.{freshMatches, singleCheck, pairCheck}
 use Rattle.row.specs.Row.{rowBytes, rowAt, numberTests, numbersOk, zerosOk, wellFormed}
 use Rattle.row.specs.Table.{hasSerial, firstRow, findRow, findEmpty, located, storeRow, wipeKey}
 use Rattle.token.specs.declared.lines.Request.{Request as Valued}
@@ -123,7 +123,7 @@ pub lent-challenges-hold :
     (challengeTaken byChallenge (replicate 4 0x21) && challengeTaken Valued.Lock [])
     && (challengeRefused byChallenge [] && (challengeRefused byChallenge (replicate 3 0x21) && challengeRefused Valued.Lock (replicate 3 0x21)))
     ≡ true
-unfolding beAt beBytes putBe sameBytes allZero allWithin decimals challengeOk numberFrom digitsOf timeCandidate candidate beyond smallest checked singleCheck
+unfolding beAt beBytes putBe sameBytes allZero allWithin decimals challengeOk numberFrom digitsOf timeCandidate candidate beyond smallest howMany checked freshMatches singleCheck
     rowAt numberTests numbersOk zerosOk wellFormed hasSerial firstRow findRow located storeRow
     waitOver waited withState accepted failed deciding decided servedAt tableOk challengeGiven served
 lent-challenges-hold = refl
@@ -165,7 +165,7 @@ refusedLoads =
     ∷ []
 
 pub arguments-hold : (allTaken takenCalls && allRefused refusedCalls) && (allTaken takenLoads && allRefused refusedLoads) ≡ true
-unfolding beAt beBytes putBe sameBytes allZero allWithin decimals challengeOk passwordOk numberFrom digitsOf timeCandidate candidate beyond smallest checked singleCheck pairCheck
+unfolding beAt beBytes putBe sameBytes allZero allWithin decimals challengeOk passwordOk numberFrom digitsOf timeCandidate candidate beyond smallest howMany checked freshMatches singleCheck pairCheck
     rowAt numberTests numbersOk zerosOk wellFormed hasSerial firstRow findRow findEmpty located storeRow wipeKey
     waitOver waited withState accepted failed deciding decided servedAt tableOk challengeGiven requestOk loadOk deskAfter
 arguments-hold = refl

@@ -8,12 +8,15 @@ use borrow.Author.Tests.{leb-true, not-true}
 use lib.Dec.{eqb, leb}
 use lib.ListN.{getD}
 use Rattle.words.specs.BoolLaws.{and-left, and-right, either, either-by, clash}
+use Rattle.otp.specs.declared.typed.Password.{Password}
+use Rattle.window.specs.declared.Size.{Size}
 use Rattle.window.specs.declared.Step.{Step}
 use Rattle.window.specs.declared.Track.{Track}
 use Rattle.window.specs.declared.Outcome.{Outcome}
 use Rattle.window.specs.declared.asked.Asked.{Asked}
 use Rattle.window.specs.PasswordAt.{PasswordRule}
 use Rattle.window.specs.Asked.{outcomeOf}
+use Rattle.window.specs.Meaning.{pair-means}
 use Rattle.row.specs.declared.Row.{Row}
 use Rattle.row.specs.declared.reading.Place.{Place}
 use Rattle.row.specs.Row.{rowBytes, lastState, rowAt, numberTests, numbersOk, wellFormed}
@@ -36,11 +39,27 @@ use Rattle.desk.specs.ServingLaws.{numbers-of}
 
 -- ---- a decision by a line of Part 5's table, on the row that a wait has left
 
+-- only of one password can there be several steps
+abbrev pub IfSingle : Asked → Type 0 → Type 0
+IfSingle (Asked.One size p) X = X
+IfSingle (Asked.Challenged size p) X = X
+IfSingle (Asked.Two size p q) X = Unit {0}
+
+pub if-single : {X : Type 0} (asked : Asked) → X → IfSingle asked X
+if-single (Asked.One size p) x = x
+if-single (Asked.Challenged size p) x = x
+if-single (Asked.Two size p q) x = tt
+
+-- a check by which no pair has several
+abbrev pub NoPairSeveral : (Track → Asked → Outcome) → Type 0
+NoPairSeveral check = (k : Track) (size : Size) (p q : Password) → check k (Asked.Two size p q) ≡ Outcome.Several → ⊥
+
 module _ (l : Line) (w : Row) (clock : ℕ) (P : Decision → Type 0) where
   -- it holds of a check's answers
-  pub record Judged (f : Fails) (o : Outcome) : Type 0 where
+  pub record Judged (asked : Asked) (f : Fails) (o : Outcome) : Type 0 where
     pub expired : leb (w .expiry .0) clock ≡ true → P (refusing Refusal.Expired w)
     pub accepted : leb (w .expiry .0) clock ≡ false → (a : Step) → o ≡ Outcome.Accepted a → P (judging l f w clock (Outcome.Accepted a))
+    pub several : IfSingle asked (leb (w .expiry .0) clock ≡ false → o ≡ Outcome.Several → P (judging l f w clock Outcome.Several))
     pub used : leb (w .expiry .0) clock ≡ false → o ≡ Outcome.Used → P (judging l f w clock Outcome.Used)
     pub wrong : leb (w .expiry .0) clock ≡ false → o ≡ Outcome.Wrong → P (judging l f w clock Outcome.Wrong)
 
@@ -49,21 +68,28 @@ module _ (l : Line) (w : Row) (clock : ℕ) (P : Decision → Type 0) where
     abbrev pub Done : Way → Type 0
     Done Way.Changes = P (changing l w)
     Done Way.Tells = P (telling l w)
-    Done (Way.Checks asked f) = Judged f (check (w .track) asked)
+    Done (Way.Checks asked f) = Judged asked f (check (w .track) asked)
 
-    judging-holds : (f : Fails) (o : Outcome) → Judged f o → leb (w .expiry .0) clock ≡ false → P (judging l f w clock o)
-    judging-holds f (Outcome.Accepted a) j t = j .accepted t a refl
-    judging-holds f Outcome.Used j t = j .used t refl
-    judging-holds f Outcome.Wrong j t = j .wrong t refl
+    severals : NoPairSeveral check → {X : Type 0} (asked : Asked) → check (w .track) asked ≡ Outcome.Several → IfSingle asked X → X
+    severals none (Asked.One size p) e x = x
+    severals none (Asked.Challenged size p) e x = x
+    severals none (Asked.Two size p q) e x = absurd (none (w .track) size p q e)
 
-    doing-holds : (way : Way) → Done way → P (doing l w clock check way)
-    doing-holds Way.Changes d = d
-    doing-holds Way.Tells d = d
-    doing-holds (Way.Checks asked f) d = either-by P (leb (w .expiry .0) clock) (d .expired) (judging-holds f (check (w .track) asked) d)
+    judging-holds : NoPairSeveral check → (asked : Asked) (f : Fails) (o : Outcome) → check (w .track) asked ≡ o → Judged asked f o → leb (w .expiry .0) clock ≡ false
+        → P (judging l f w clock o)
+    judging-holds none asked f (Outcome.Accepted a) e j t = j .accepted t a refl
+    judging-holds none asked f Outcome.Several e j t = severals none asked e (j .several) t refl
+    judging-holds none asked f Outcome.Used e j t = j .used t refl
+    judging-holds none asked f Outcome.Wrong e j t = j .wrong t refl
 
-    pub line-holds : (allowed (l .needs) (w .state) ≡ false → P (refusing (stateRefusal (w .state)) w)) → (allowed (l .needs) (w .state) ≡ true → Done (l .way))
+    doing-holds : NoPairSeveral check → (way : Way) → Done way → P (doing l w clock check way)
+    doing-holds none Way.Changes d = d
+    doing-holds none Way.Tells d = d
+    doing-holds none (Way.Checks asked f) d = either-by P (leb (w .expiry .0) clock) (d .expired) (judging-holds none asked f (check (w .track) asked) refl d)
+
+    pub line-holds : NoPairSeveral check → (allowed (l .needs) (w .state) ≡ false → P (refusing (stateRefusal (w .state)) w)) → (allowed (l .needs) (w .state) ≡ true → Done (l .way))
         → P (permitted l w clock check)
-    line-holds unfit made = either-by P (allowed (l .needs) (w .state)) (λ t. doing-holds (l .way) (made t)) unfit
+    line-holds none unfit made = either-by P (allowed (l .needs) (w .state)) (λ t. doing-holds none (l .way) (made t)) unfit
 
 -- ---- the calls
 
@@ -95,6 +121,9 @@ lineFor request = lineOf (valued request)
 -- the request's check of the row at a place
 abbrev pub checkAt : PasswordRule → Request → List ℕ → ℕ → ℕ → Track → Asked → Outcome
 checkAt passwords request s at clock k asked = outcomeOf passwords k clock (secretAt s at) (challengeOf request) asked
+
+pub no-pair-several : (passwords : PasswordRule) (request : Request) (s : List ℕ) (at clock : ℕ) → NoPairSeveral (checkAt passwords request s at clock)
+no-pair-several passwords request s at clock k size p q e = pair-means k clock size _ _ .several .0 e
 
 -- it holds of what the request, made in a state that it needs, comes to
 abbrev pub Made : PasswordRule → Request → List ℕ → ℕ → ℕ → (Result → Type 0) → Type 0
@@ -139,7 +168,7 @@ module _ (passwords : PasswordRule) (s : List ℕ) (P : Result → Type 0) where
     module _ (h : NamedHolds) where
       reached-holds : (at : ℕ) → Reached request serial clock s at → P (servedAt passwords (valued request) (challengeOf request) clock s at (rowAt s at))
       unfolding servedAt decided deciding
-      reached-holds at r = line-holds (lineFor request) (rowNow s at clock) clock (λ d. P (stored s at d)) (checkAt passwords request s at clock) (h .unfit at r) (h .made at r)
+      reached-holds at r = line-holds (lineFor request) (rowNow s at clock) clock (λ d. P (stored s at d)) (checkAt passwords request s at clock) (no-pair-several passwords request s at clock) (h .unfit at r) (h .made at r)
 
       placed-holds : Fit request clock s → (place : Place) → findRow rowBytes s serial ≡ place
           → P (servedFrom passwords (valued request) (challengeOf request) clock s (locatedAt lastState s place))
@@ -172,7 +201,7 @@ module _ (Q : Answer → Type 0) where
     succeeds-done l w clock check Way.Changes q = q
     succeeds-done l w clock check Way.Tells q = q
     succeeds-done l w clock check (Way.Checks asked f) q =
-        record { expired = λ t. refusals Refusal.Expired; accepted = λ t. q; used = λ t e. refusals (f .used); wrong = λ t e. refusals (f .wrong) }
+        record { expired = λ t. refusals Refusal.Expired; accepted = λ t. q; several = if-single asked (λ t e. refusals (f .several)); used = λ t e. refusals (f .used); wrong = λ t e. refusals (f .wrong) }
 
     pub load-answer-holds : (p : Particulars) (key : List ℕ) → Q (Answer.Success 0x0140 Content.Plain) → Q (deskAfter passwords (DeskCall.load p key) s .answer)
     load-answer-holds p key q =
@@ -194,24 +223,26 @@ module _ (Q : Answer → Type 0) where
 
 -- what holds of each refusal
 pub by-refusal : (P : Refusal → Type 0) → P Refusal.BadArgument → P Refusal.AlreadyLoaded → P Refusal.TableFull → P Refusal.Unknown → P Refusal.Damaged → P Refusal.Ready → P Refusal.Locked → P Refusal.Suspended
-    → P Refusal.Inactive → P Refusal.Void → P Refusal.Expired → P Refusal.UsedAtLogin → P Refusal.Used → P Refusal.WrongAtLogin → P Refusal.Wrong → P Refusal.WrongAtSync
+    → P Refusal.Inactive → P Refusal.Void → P Refusal.Expired → P Refusal.NextAtLogin → P Refusal.NextWanted → P Refusal.UsedAtLogin → P Refusal.Used → P Refusal.WrongAtLogin → P Refusal.Wrong → P Refusal.WrongAtSync
     → (f : Refusal) → P f
-by-refusal P a b c d e f g h i j k l m n o p Refusal.BadArgument = a
-by-refusal P a b c d e f g h i j k l m n o p Refusal.AlreadyLoaded = b
-by-refusal P a b c d e f g h i j k l m n o p Refusal.TableFull = c
-by-refusal P a b c d e f g h i j k l m n o p Refusal.Unknown = d
-by-refusal P a b c d e f g h i j k l m n o p Refusal.Damaged = e
-by-refusal P a b c d e f g h i j k l m n o p Refusal.Ready = f
-by-refusal P a b c d e f g h i j k l m n o p Refusal.Locked = g
-by-refusal P a b c d e f g h i j k l m n o p Refusal.Suspended = h
-by-refusal P a b c d e f g h i j k l m n o p Refusal.Inactive = i
-by-refusal P a b c d e f g h i j k l m n o p Refusal.Void = j
-by-refusal P a b c d e f g h i j k l m n o p Refusal.Expired = k
-by-refusal P a b c d e f g h i j k l m n o p Refusal.UsedAtLogin = l
-by-refusal P a b c d e f g h i j k l m n o p Refusal.Used = m
-by-refusal P a b c d e f g h i j k l m n o p Refusal.WrongAtLogin = n
-by-refusal P a b c d e f g h i j k l m n o p Refusal.Wrong = o
-by-refusal P a b c d e f g h i j k l m n o p Refusal.WrongAtSync = p
+by-refusal P a b c d e f g h i j k l m n o p q r Refusal.BadArgument = a
+by-refusal P a b c d e f g h i j k l m n o p q r Refusal.AlreadyLoaded = b
+by-refusal P a b c d e f g h i j k l m n o p q r Refusal.TableFull = c
+by-refusal P a b c d e f g h i j k l m n o p q r Refusal.Unknown = d
+by-refusal P a b c d e f g h i j k l m n o p q r Refusal.Damaged = e
+by-refusal P a b c d e f g h i j k l m n o p q r Refusal.Ready = f
+by-refusal P a b c d e f g h i j k l m n o p q r Refusal.Locked = g
+by-refusal P a b c d e f g h i j k l m n o p q r Refusal.Suspended = h
+by-refusal P a b c d e f g h i j k l m n o p q r Refusal.Inactive = i
+by-refusal P a b c d e f g h i j k l m n o p q r Refusal.Void = j
+by-refusal P a b c d e f g h i j k l m n o p q r Refusal.Expired = k
+by-refusal P a b c d e f g h i j k l m n o p q r Refusal.NextAtLogin = l
+by-refusal P a b c d e f g h i j k l m n o p q r Refusal.NextWanted = m
+by-refusal P a b c d e f g h i j k l m n o p q r Refusal.UsedAtLogin = n
+by-refusal P a b c d e f g h i j k l m n o p q r Refusal.Used = o
+by-refusal P a b c d e f g h i j k l m n o p q r Refusal.WrongAtLogin = p
+by-refusal P a b c d e f g h i j k l m n o p q r Refusal.Wrong = q
+by-refusal P a b c d e f g h i j k l m n o p q r Refusal.WrongAtSync = r
 
 -- ---- a row that is found and well formed is in one of the states 1 to 6
 

@@ -79,15 +79,18 @@ abbrev pub cellHolds : Result → List ℕ → Cell → Bool
 cellHolds x s c = (eqb (numberOf (x .answer)) (c .code) && sameValues (carried (x .answer)) (c .values)) && sameBytes (x .table) (laid s 0 (c .changes))
 
 -- the row is all of the table
-abbrev pub cellsHold : DeskCall → List (List ℕ) → List Cell → Bool
-cellsHold call [] [] = true
-cellsHold call [] (c ∷ cs) = false
-cellsHold call (s ∷ ss) [] = false
-cellsHold call (s ∷ ss) (c ∷ cs) = cellHolds (deskAfter bySteps call s) s c && cellsHold call ss cs
+abbrev pub cellsHold : PasswordRule → DeskCall → List (List ℕ) → List Cell → Bool
+cellsHold passwords call [] [] = true
+cellsHold passwords call [] (c ∷ cs) = false
+cellsHold passwords call (s ∷ ss) [] = false
+cellsHold passwords call (s ∷ ss) (c ∷ cs) = cellHolds (deskAfter passwords call s) s c && cellsHold passwords call ss cs
+
+abbrev pub allHoldBy : PasswordRule → List Line → Bool
+allHoldBy passwords [] = true
+allHoldBy passwords (l ∷ ls) = cellsHold passwords (l .call) (l .rows) (l .cells) && allHoldBy passwords ls
 
 abbrev pub allHold : List Line → Bool
-allHold [] = true
-allHold (l ∷ ls) = cellsHold (l .call) (l .rows) (l .cells) && allHold ls
+allHold lines = allHoldBy bySteps lines
 
 -- a request at a clock reading, and its cells in states 1 to 6
 abbrev pub line : Request → ℕ → Cell → Cell → Cell → Cell → Cell → Cell → Line

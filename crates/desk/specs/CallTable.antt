@@ -11,8 +11,8 @@ use Rattle.otp.specs.Password.{decimals, challengeOk}
 use Rattle.otp.specs.Numbers.{numberFrom}
 use Rattle.otp.specs.Typed.{passwordOk, digitsOf}
 use Rattle.window.specs.Window.{timeCandidate, candidate, beyond}
-use Rattle.window.specs.Check.{smallest, checked}
-use Rattle.window.specs.TokenCheck.{singleCheck, pairCheck}
+use Rattle.window.specs.Check.{smallest, howMany, checked}
+use Rattle.window.specs.TokenCheck.{freshMatches, singleCheck, pairCheck}
 use Rattle.row.specs.Row.{rowAt, beforeKey, stepBytes, timeBytes, render, numberTests, numbersOk, zerosOk, wellFormed}
 use Rattle.row.specs.Table.{hasSerial, firstRow, findRow, findEmpty, located, storeRow, wipeKey, writeRow}
 use Rattle.token.specs.Codes.{signedOf, valuesOf}
@@ -298,7 +298,7 @@ markedLines =
 pub call-table-holds
     : ((allHold acceptedLines && allHold usedLines) && (allHold wrongLines && allHold miscountedLines)) && ((allHold waitedLines && allHold expiredLines) && (allHold loadLines && (allHold foundLines && allHold markedLines)))
     ≡ true
-unfolding beAt beBytes putBe sameBytes allZero allWithin decimals challengeOk passwordOk numberFrom digitsOf timeCandidate candidate beyond smallest checked singleCheck pairCheck
+unfolding beAt beBytes putBe sameBytes allZero allWithin decimals challengeOk passwordOk numberFrom digitsOf timeCandidate candidate beyond smallest howMany checked freshMatches singleCheck pairCheck
     rowAt beforeKey stepBytes timeBytes render numberTests numbersOk zerosOk wellFormed hasSerial firstRow findRow findEmpty located storeRow wipeKey writeRow
     signedOf valuesOf waitOver waited withState accepted failed deciding decided servedAt tableOk challengeGiven requestOk loadOk deskAfter
 call-table-holds = refl

@@ -106,7 +106,7 @@ module _ (s : List ℕ) (at : ℕ) where
         (cond (eqb code 0x0104) (state 5 ∷ lockedAt 0 ∷ [])
         (cond (eqb code 0x010a) (state 6 ∷ lockedAt 0 ∷ zeroKey ∷ []) [])))))))
 
-    -- by the code and the accepted step; 8409 and 8404 to 8408 leave only a wait run out
+    -- by the code and the accepted step; 8409, 8404 to 8408, 8001 and 8101 leave only a wait run out
     abbrev pub leftBy : ℕ → ℕ → List Change
     leftBy code a = cond (oneOf code unchangedCodes) [] (ranOut ++ besides code a)
 

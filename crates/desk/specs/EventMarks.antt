@@ -1,11 +1,15 @@
 -- What a checked success marks of an event token (document 01, Part 3): next, errors and last use; d stays 0. An event token's steps are too many to
 -- be computed one by one, so that the check's outcome comes from its meaning, and the rest computes.
-use Prim.Native.Nat.{ℕ, _<_}
+use Prim.Native.Nat.{ℕ, _+_, _-_, _≤_, _<_}
 use mathlib.Core.Path.{_≡_, refl}
 use mathlib.Core.Bool.{Bool, true, false, not}
 use mathlib.Core.List.{[], _∷_}
-use borrow.Author.Tests.{not-true}
+use mathlib.Core.Logic.{_⊎_, inl, inr}
+use native.Mathlib.Omega.{arith}
+use borrow.Author.Tests.{not-true, le-ltb}
+use lib.Dec.{leb}
 use lib.ListN.{replicate, length-replicate}
+use Rattle.words.specs.BoolLaws.{and-left, and-right, and-false, clash}
 use Rattle.words.specs.Bytes.{beAt, beBytes, putBe}
 use Rattle.words.specs.Lists.{sameBytes, allZero, allWithin}
 use Rattle.words.specs.Entries.{every, entry-rule}
@@ -16,8 +20,11 @@ use Rattle.window.specs.declared.Size.the-variants.{Small, Large}
 use Rattle.window.specs.declared.Outcome.the-variants.{Accepted}
 use Rattle.window.specs.Window.{eventCandidate, candidate}
 use Rattle.window.specs.WindowTable.{eventTrack}
+use Rattle.window.specs.Range.{firstStep, endStep}
+use Rattle.window.specs.WindowLaws.{candidates-are-range}
+use Rattle.window.specs.CheckLaws.{order}
 use Rattle.window.specs.Check.{freshHit, singleHit, pairHit}
-use Rattle.window.specs.Meaning.{First, single-means, pair-means}
+use Rattle.window.specs.Meaning.{First, Only, single-means, pair-means}
 use Rattle.window.specs.PasswordAt.{hasBy}
 use Rattle.window.specs.TokenCheck.{singleCheck, pairCheck}
 use Rattle.row.specs.Row.{rowAt, numberTests, numbersOk, zerosOk, wellFormed}
@@ -39,14 +46,31 @@ has password = hasBy bySteps (record { kind = 1; algorithm = 3; digits = 6 }) (r
 none-below : (test : ℕ → Bool) (n : ℕ) → every (λ i entry. not (test i)) 0 (replicate n 0) ≡ true → (r : ℕ) → r < n → test r ≡ false
 none-below test n t r l = not-true (test r) (entry-rule (λ i entry. not (test i)) (replicate n 0) t r (rw length-replicate l))
 
+none-between : (test : ℕ → Bool) (m n : ℕ) → every (λ i entry. not (test (m + i))) 0 (replicate n 0) ≡ true → (r : ℕ) → m ≤ r → r < m + n → test r ≡ false
+none-between test m n t r l u = let e : r ≡ m + (r - m) = omega arith in rw e (none-below (λ i. test (m + i)) n t (r - m) (omega arith))
+
+-- the candidates end with 16
+past-candidates : (r : ℕ) → 17 ≤ r → candidate (eventTrack 7) 1059 Small r ≡ false
+unfolding endStep
+past-candidates r l = rw (candidates-are-range (eventTrack 7) 1059 Small r, le-ltb r 17 l) (and-false (leb (firstStep (eventTrack 7) 1059 Small) r))
+
 -- ---- a login with step 9, where step 7 is the first unused one
 
-fresh-nine : First (freshHit (singleHit (candidate (eventTrack 7) 1059 Small) (has 9)) 7) 9
+abbrev nine : ℕ → Bool
+nine = freshHit (singleHit (candidate (eventTrack 7) 1059 Small) (has 9)) 7
+
+only-nine : Only nine 9
 unfolding candidate eventCandidate sameBytes decimals
-fresh-nine = record { passes = refl; before = none-below (freshHit (singleHit (candidate (eventTrack 7) 1059 Small) (has 9)) 7) 9 refl }
+only-nine = record { passes = refl; alone = λ r t. by-place r t (order r 9) (order 9 r) (order r 17) }
+  where
+    by-place : (r : ℕ) → nine r ≡ true → (r < 9) ⊎ (9 ≤ r) → (9 < r) ⊎ (r ≤ 9) → (r < 17) ⊎ (17 ≤ r) → r ≡ 9
+    by-place r t (inl l) b e = clash t (none-below nine 9 refl r l)
+    by-place r t (inr l) (inr b) e = omega arith
+    by-place r t (inr l) (inl b) (inl e) = clash t (none-between nine 10 7 refl r (omega arith) (omega arith))
+    by-place r t (inr l) (inl b) (inr e) = clash (and-left _ _ (and-right (leb 7 r) _ t)) (past-candidates r e)
 
 nine-accepted : singleCheck (eventTrack 7) 1059 Small (has 9) ≡ Accepted (record { 0 = 9 })
-nine-accepted = single-means (eventTrack 7) 1059 Small (has 9) .accepted .1 9 fresh-nine
+nine-accepted = single-means (eventTrack 7) 1059 Small (has 9) .accepted .1 9 only-nine
 
 pub event-login-marks : cellHolds (deskAfter bySteps (DeskCall.named (Request.login (decimals 6 9)) 9 1059) (rowBy 1 0 2 2 7 0)) (rowBy 1 0 2 2 7 0)
     (cell 0x0001 (plus 9 ∷ plus 0 ∷ []) (errors 0 ∷ next 10 ∷ lastUse 1059 ∷ []))

@@ -75,13 +75,22 @@ stateUnfit these needed state = oneOf state these && not (oneOf state needed)
 abbrev pub expired : Row → ℕ → Bool
 expired r clock = leb (r .expiry .0) clock
 
+-- two or more fresh steps have the one password (document 02, Ask 5)
+abbrev pub severalMatch : Outcome → Bool
+severalMatch (Outcome.Accepted a) = false
+severalMatch Outcome.Several = true
+severalMatch Outcome.Used = false
+severalMatch Outcome.Wrong = false
+
 abbrev pub matchUsed : Outcome → Bool
 matchUsed (Outcome.Accepted a) = false
+matchUsed Outcome.Several = false
 matchUsed Outcome.Used = true
 matchUsed Outcome.Wrong = false
 
 abbrev pub nothingMatches : Outcome → Bool
 nothingMatches (Outcome.Accepted a) = false
+nothingMatches Outcome.Several = false
 nothingMatches Outcome.Used = false
 nothingMatches Outcome.Wrong = true
 
@@ -111,9 +120,18 @@ successCode (Request.sync choice password following) = 0x0108
 successCode Request.void = 0x010a
 successCode Request.query = 0x010b
 
--- the lines of a checked call, with its codes of used and wrong
-abbrev pub checkLines : Row → ℕ → ℕ → ℕ → Outcome → List Line
-checkLines r clock used wrong outcome =
+-- the lines of a call that checks one password, with its codes of several, used and wrong
+abbrev pub singleLines : Row → ℕ → ℕ → ℕ → ℕ → Outcome → List Line
+singleLines r clock several used wrong outcome =
+    returns 0x8408 (expired r clock)
+    ∷ returns several (severalMatch outcome)
+    ∷ returns used (matchUsed outcome)
+    ∷ returns wrong (nothingMatches outcome)
+    ∷ []
+
+-- and of one that checks two, with its codes of used and wrong
+abbrev pub pairLines : Row → ℕ → ℕ → ℕ → Outcome → List Line
+pairLines r clock used wrong outcome =
     returns 0x8408 (expired r clock)
     ∷ returns used (matchUsed outcome)
     ∷ returns wrong (nothingMatches outcome)
@@ -129,14 +147,14 @@ module _ (passwords : PasswordRule) (r : Row) (key : List ℕ) (clock : ℕ) whe
       pairCheck (r .track) clock size (hasBy passwords (r .track .scheme) key [] password) (hasBy passwords (r .track .scheme) key [] following)
 
   abbrev pub requestLines : Request → List Line
-  requestLines (Request.login password) = checkLines r clock 0x8004 0x8002 (single Small [] password)
-  requestLines (Request.challengeLogin challenge password) = checkLines r clock 0x8004 0x8002 (single Small challenge password)
-  requestLines (Request.activate password following) = checkLines r clock 0x8104 0x8102 (pair Large password following)
+  requestLines (Request.login password) = singleLines r clock 0x8001 0x8004 0x8002 (single Small [] password)
+  requestLines (Request.challengeLogin challenge password) = singleLines r clock 0x8001 0x8004 0x8002 (single Small challenge password)
+  requestLines (Request.activate password following) = pairLines r clock 0x8104 0x8102 (pair Large password following)
   requestLines Request.lock = []
-  requestLines (Request.unlock password) = checkLines r clock 0x8104 0x8102 (single Small [] password)
+  requestLines (Request.unlock password) = singleLines r clock 0x8101 0x8104 0x8102 (single Small [] password)
   requestLines Request.suspend = []
-  requestLines (Request.resume password) = checkLines r clock 0x8104 0x8102 (single Small [] password)
-  requestLines (Request.sync choice password following) = checkLines r clock 0x8104 0x8105 (pair (cond (eqb choice 1) Medium Large) password following)
+  requestLines (Request.resume password) = singleLines r clock 0x8101 0x8104 0x8102 (single Small [] password)
+  requestLines (Request.sync choice password following) = pairLines r clock 0x8104 0x8105 (pair (cond (eqb choice 1) Medium Large) password following)
   requestLines Request.void = []
   requestLines Request.query = []
 

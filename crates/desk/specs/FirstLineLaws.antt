@@ -6,7 +6,10 @@ use mathlib.Core.List.{List}
 use Rattle.words.specs.BoolLaws.{and-left, and-right, by-test}
 use Rattle.otp.specs.Typed.{passwordOk}
 use Rattle.otp.specs.TypedLaws.{digits-back}
+use Rattle.otp.specs.declared.typed.Password.{Password}
+use Rattle.window.specs.declared.Size.{Size}
 use Rattle.window.specs.declared.Outcome.{Outcome}
+use Rattle.window.specs.declared.asked.Asked.{Asked}
 use Rattle.window.specs.PasswordAt.{PasswordRule}
 use Rattle.row.specs.declared.Row.{Row}
 use Rattle.row.specs.Row.{rowBytes}
@@ -16,8 +19,8 @@ use Rattle.token.specs.Lines.{allowed, stateRefusal}
 use Rattle.token.specs.Codes.{refusalNumber, numberOf}
 use Rattle.desk.specs.Requests.{Request, DeskCall, tableOk, clockOk, challengeGiven, choiceOk, requestOk, loadOk}
 use Rattle.desk.specs.Desk.{Result, secretAt}
-use Rattle.desk.specs.BranchLaws.{Judged, rowNow, lineFor, Made, load-holds, named-holds, Standing, reached-standing, by-state}
-use Rattle.desk.specs.FirstLine.{Line, firstOf, needed, successCode, checkLines, requestLines, stateLines, linesFor, success, FirstLineThatHolds}
+use Rattle.desk.specs.BranchLaws.{if-single, Judged, rowNow, lineFor, Made, load-holds, named-holds, Standing, reached-standing, by-state}
+use Rattle.desk.specs.FirstLine.{Line, firstOf, needed, successCode, singleLines, pairLines, requestLines, stateLines, linesFor, success, FirstLineThatHolds}
 
 -- the lines of the state decide as the request's needed states do
 state-decides : (request : Request) (further : List Line) (other state : ℕ) → Standing state
@@ -34,25 +37,32 @@ state-decides Request.void further other = by-state _ refl refl refl refl refl r
 state-decides Request.query further other = by-state _ refl refl refl refl refl refl
 
 -- the lines of a check decide as its outcome does
-check-decides : (l : Listed) (f : Fails) (w : Row) (clock : ℕ) (o : Outcome)
-    → Judged l w clock (λ d. numberOf (d .answer) ≡ firstOf (checkLines w clock (refusalNumber (f .used)) (refusalNumber (f .wrong)) o) (l .success)) f o
-check-decides l f w clock o = record { expired = λ t. rw t; accepted = λ t a e. rw (t, e); used = λ t e. rw (t, e); wrong = λ t e. rw (t, e) }
+module _ (l : Listed) (f : Fails) (w : Row) (clock : ℕ) (o : Outcome) where
+  abbrev Decides : Asked → List Line → Type 0
+  Decides asked lines = Judged l w clock (λ d. numberOf (d .answer) ≡ firstOf lines (l .success)) asked f o
+
+  one-decides : (asked : Asked) → Decides asked (singleLines w clock (refusalNumber (f .several)) (refusalNumber (f .used)) (refusalNumber (f .wrong)) o)
+  one-decides asked =
+      record { expired = λ t. rw t; accepted = λ t a e. rw (t, e); several = if-single asked (λ t e. rw (t, e)); used = λ t e. rw (t, e); wrong = λ t e. rw (t, e) }
+
+  two-decides : (size : Size) (p q : Password) → Decides (Asked.Two size p q) (pairLines w clock (refusalNumber (f .used)) (refusalNumber (f .wrong)) o)
+  two-decides size p q = record { expired = λ t. rw t; accepted = λ t a e. rw (t, e); several = tt; used = λ t e. rw (t, e); wrong = λ t e. rw (t, e) }
 
 -- so do the lines of a request, whose passwords were typed well
 request-decides : (passwords : PasswordRule) (request : Request) (s : List ℕ) (at clock : ℕ) → requestOk request ≡ true
     → Made passwords request s at clock (λ x. numberOf (x .answer) ≡ firstOf (requestLines passwords (rowNow s at clock) (secretAt s at) clock request) (successCode request))
 unfolding requestOk
-request-decides passwords (Request.login p) s at clock ok = rw (digits-back p ok) (check-decides _ _ _ _ _)
-request-decides passwords (Request.challengeLogin q p) s at clock ok = rw (digits-back p (and-right (challengeGiven q) _ ok)) (check-decides _ _ _ _ _)
+request-decides passwords (Request.login p) s at clock ok = rw (digits-back p ok) (one-decides _ _ _ _ _ _)
+request-decides passwords (Request.challengeLogin q p) s at clock ok = rw (digits-back p (and-right (challengeGiven q) _ ok)) (one-decides _ _ _ _ _ _)
 request-decides passwords (Request.activate p q) s at clock ok =
-    rw (digits-back p (and-left _ _ ok), digits-back q (and-right (passwordOk p) _ ok)) (check-decides _ _ _ _ _)
+    rw (digits-back p (and-left _ _ ok), digits-back q (and-right (passwordOk p) _ ok)) (two-decides _ _ _ _ _ _ _ _)
 request-decides passwords Request.lock s at clock ok = refl
-request-decides passwords (Request.unlock p) s at clock ok = rw (digits-back p ok) (check-decides _ _ _ _ _)
+request-decides passwords (Request.unlock p) s at clock ok = rw (digits-back p ok) (one-decides _ _ _ _ _ _)
 request-decides passwords Request.suspend s at clock ok = refl
-request-decides passwords (Request.resume p) s at clock ok = rw (digits-back p ok) (check-decides _ _ _ _ _)
+request-decides passwords (Request.resume p) s at clock ok = rw (digits-back p ok) (one-decides _ _ _ _ _ _)
 request-decides passwords (Request.sync choice p q) s at clock ok =
     let typed = and-right (choiceOk choice) _ ok in
-    rw (digits-back p (and-left _ _ typed), digits-back q (and-right (passwordOk p) _ typed)) (check-decides _ _ _ _ _)
+    rw (digits-back p (and-left _ _ typed), digits-back q (and-right (passwordOk p) _ typed)) (two-decides _ _ _ _ _ _ _ _)
 request-decides passwords Request.void s at clock ok = refl
 request-decides passwords Request.query s at clock ok = refl
 

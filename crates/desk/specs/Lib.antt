@@ -19,6 +19,7 @@ pub mod Demand2Laws
 pub mod No8106Laws
 pub mod CallLines
 pub mod CallTable
+pub mod SeveralTable
 pub mod ArgumentTable
 pub mod EventMarks
 pub mod FirstLine

@@ -114,7 +114,7 @@ module _ (s : List ℕ) (at clock : ℕ) where
       let kept = waited-covered (partsOf 0x8408) [] refl refl in
       let login = waited-covered (partsOf 0x8004) (besides s at clock 0x8004 0) refl login-fits in
       let counted = waited-covered (partsOf 0x8104) (besides s at clock 0x8104 0) refl refl in
-      by-refusal (λ f. Covered (refusalNumber f) 0) refl refl refl refl refl kept kept kept kept kept kept login counted login counted counted
+      by-refusal (λ f. Covered (refusalNumber f) 0) refl refl refl refl refl kept kept kept kept kept kept kept kept login counted login counted counted
 
   abbrev AnswerCovered : Answer → Type 0
   AnswerCovered answer = Covered (numberOf answer) (stepIn answer)

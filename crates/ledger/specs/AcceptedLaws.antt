@@ -16,7 +16,7 @@ use Rattle.window.specs.Window.{timeToken, stepAt, distance, farthest, candidat
 use Rattle.window.specs.PasswordAt.{PasswordRule, hasBy}
 use Rattle.window.specs.TokenCheck.{singleCheck, pairCheck}
 use Rattle.window.specs.Asked.{outcomeOf}
-use Rattle.window.specs.Meaning.{Means, candidate-bounded, candidate-near, single-means, single-accepts-candidate, pair-means, pair-accepts-candidate}
+use Rattle.window.specs.Meaning.{candidate-bounded, candidate-near, single-means, single-accepts-candidate, pair-means, pair-accepts-candidate}
 use Rattle.token.specs.States.{IfAccepted}
 
 -- at or after `next`, below the end of all candidates, and for a time token at most 600 from the clock's step
@@ -25,32 +25,31 @@ pub record Acceptable (k : Track) (clock a : ℕ) : Type 0 where
   pub below : a < beyond k clock
   pub near : k .scheme .kind ≡ timeToken → distance a (stepAt clock (k .period)) ≤ farthest
 
-means-fresh : {hit : ℕ → Bool} {ahead next : ℕ} {o : Outcome} → Means hit ahead next o → (a : Step) → o ≡ Outcome.Accepted a → next ≤ a .0
-means-fresh {hit} {ahead} {next} means a e =
-    let found = means .accepted .0 a e in
-    let s = found .0 in
-    let l = leb-true next s (and-left _ _ (found .1 .1 .passes)) in
-    let m = found .1 .0 in
-    omega arith
-
 module _ (k : Track) (clock : ℕ) (size : Size) where
   -- a fresh candidate is
   by-outcome : (o : Outcome) → ((a : Step) → o ≡ Outcome.Accepted a → (k .next .0 ≤ a .0) × (candidate k clock size (a .0) ≡ true)) → IfAccepted (Acceptable k clock) o
   by-outcome (Outcome.Accepted a) h =
       let found = h a refl in
       record { fresh = found .0; below = candidate-bounded k clock size (a .0) (found .1); near = candidate-near k clock size (a .0) (found .1) }
+  by-outcome Outcome.Several h = tt
   by-outcome Outcome.Used h = tt
   by-outcome Outcome.Wrong h = tt
 
   pub single-accepts : (matches : ℕ → Bool) → IfAccepted (Acceptable k clock) (singleCheck k clock size matches)
   single-accepts matches =
       by-outcome (singleCheck k clock size matches)
-      (λ a e. (means-fresh (single-means k clock size matches) a e, single-accepts-candidate k clock size matches e))
+      (λ a e.
+      let found = single-means k clock size matches .accepted .0 a e in
+      let l = leb-true (k .next .0) (found .0) (and-left _ _ (found .1 .1 .passes)) in
+      (omega (arith, l, found .1 .0), single-accepts-candidate k clock size matches e))
 
   pub pair-accepts : (first second : ℕ → Bool) → IfAccepted (Acceptable k clock) (pairCheck k clock size first second)
   pair-accepts first second =
       by-outcome (pairCheck k clock size first second)
-      (λ a e. (means-fresh (pair-means k clock size first second) a e, pair-accepts-candidate k clock size first second e))
+      (λ a e.
+      let found = pair-means k clock size first second .accepted .0 a e in
+      let l = leb-true (k .next .0) (found .0) (and-left _ _ (found .1 .1 .passes)) in
+      (omega (arith, l, found .1 .0), pair-accepts-candidate k clock size first second e))
 
 pub asked-accepts : (passwords : PasswordRule) (k : Track) (clock : ℕ) (key challenge : List ℕ) (asked : Asked)
     → IfAccepted (Acceptable k clock) (outcomeOf passwords k clock key challenge asked)

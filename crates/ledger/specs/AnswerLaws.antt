@@ -22,6 +22,7 @@ use Rattle.token.specs.Codes.{refusalNumber, numberOf}
 use Rattle.token.specs.States.{IfAccepted}
 use Rattle.desk.specs.Requests.{Request, DeskCall}
 use Rattle.desk.specs.Desk.{checkedOf}
+use Rattle.desk.specs.BranchLaws.{by-refusal}
 use Rattle.ledger.specs.Ledger.{Entry, Loaded, Marks, Reading, runOut, follows, entered, needing, offsetWith, judgedBy, trackOf, requested}
 use Rattle.ledger.specs.AcceptedLaws.{Acceptable}
 use Rattle.ledger.specs.LineLaws.{Listed, Checked, by-line}
@@ -32,22 +33,7 @@ StepFrom next none = Unit {0}
 StepFrom next (some checked) = next ≤ checked .0 .0
 
 pub refusal-high : (f : Refusal) → leb 0x8000 (refusalNumber f) ≡ true
-refusal-high Refusal.BadArgument = refl
-refusal-high Refusal.AlreadyLoaded = refl
-refusal-high Refusal.TableFull = refl
-refusal-high Refusal.Unknown = refl
-refusal-high Refusal.Damaged = refl
-refusal-high Refusal.Ready = refl
-refusal-high Refusal.Locked = refl
-refusal-high Refusal.Suspended = refl
-refusal-high Refusal.Inactive = refl
-refusal-high Refusal.Void = refl
-refusal-high Refusal.Expired = refl
-refusal-high Refusal.UsedAtLogin = refl
-refusal-high Refusal.Used = refl
-refusal-high Refusal.WrongAtLogin = refl
-refusal-high Refusal.Wrong = refl
-refusal-high Refusal.WrongAtSync = refl
+refusal-high = by-refusal (λ f. leb 0x8000 (refusalNumber f) ≡ true) refl refl refl refl refl refl refl refl refl refl refl refl refl refl refl refl refl refl
 
 module _ (passwords : PasswordRule) (l : Loaded) (m : Marks) (y : Reading) (serial clock : ℕ) where
   -- of an answer to the request: a step in it is fresh, and if it is 010a, then it leaves the token void
@@ -76,8 +62,9 @@ module _ (passwords : PasswordRule) (l : Loaded) (m : Marks) (y : Reading) (seri
     needing-fits : {a : Answer} → Fits request a → Fits request (needing states (y .state) a)
     needing-fits p = either (Fits request) (oneOf (y .state) states) p (refusal-fits request _)
 
-    outcome-fits : (f : Fails) (o : Outcome) → IfAccepted (Acceptable (trackOf l m) clock) o → Fits request (judgedBy success (f .used) (f .wrong) (trackOf l m) clock o)
+    outcome-fits : (f : Fails) (o : Outcome) → IfAccepted (Acceptable (trackOf l m) clock) o → Fits request (judgedBy success (f .several) (f .used) (f .wrong) (trackOf l m) clock o)
     outcome-fits f (Outcome.Accepted a) good = success-fits (Content.Checked a (offsetWith (trackOf l m) clock (a .0))) (good .fresh)
+    outcome-fits f Outcome.Several good = refusal-fits request (f .several)
     outcome-fits f Outcome.Used good = refusal-fits request (f .used)
     outcome-fits f Outcome.Wrong good = refusal-fits request (f .wrong)
 

@@ -186,11 +186,12 @@ needing states state answer =
 abbrev pub offsetWith : Track → ℕ → ℕ → Offset
 offsetWith k clock a = record { 0 = cond (eqb (k .scheme .kind) timeToken) (farthest + a - clock / k .period) (k .offset .0) }
 
--- a check's outcome: the success with step and d, used or wrong
-abbrev pub judgedBy : ℕ → Refusal → Refusal → Track → ℕ → Outcome → Answer
-judgedBy success used wrong k clock (Outcome.Accepted a) = Answer.Success success (Content.Checked a (offsetWith k clock (a .0)))
-judgedBy success used wrong k clock Outcome.Used = Answer.Refused used
-judgedBy success used wrong k clock Outcome.Wrong = Answer.Refused wrong
+-- a check's outcome: the success with step and d, the call for the next password (document 02, Ask 5), used or wrong
+abbrev pub judgedBy : ℕ → Refusal → Refusal → Refusal → Track → ℕ → Outcome → Answer
+judgedBy success several used wrong k clock (Outcome.Accepted a) = Answer.Success success (Content.Checked a (offsetWith k clock (a .0)))
+judgedBy success several used wrong k clock Outcome.Several = Answer.Refused several
+judgedBy success several used wrong k clock Outcome.Used = Answer.Refused used
+judgedBy success several used wrong k clock Outcome.Wrong = Answer.Refused wrong
 
 -- the numbers that a check reads
 abbrev pub trackOf : Loaded → Marks → Track
@@ -207,24 +208,24 @@ module _ (passwords : PasswordRule) (l : Loaded) (m : Marks) (r : Reading) (cloc
       pairCheck (trackOf l m) clock size (hasBy passwords (l .particulars .scheme) (l .key) [] password) (hasBy passwords (l .particulars .scheme) (l .key) [] following)
 
   -- 8408 comes before the check
-  abbrev pub withCheck : List ℕ → ℕ → Refusal → Refusal → Outcome → Answer
-  withCheck states success used wrong outcome =
-      needing states (r .state) (cond (leb (l .particulars .expiry .0) clock) (Answer.Refused Refusal.Expired) (judgedBy success used wrong (trackOf l m) clock outcome))
+  abbrev pub withCheck : List ℕ → ℕ → Refusal → Refusal → Refusal → Outcome → Answer
+  withCheck states success several used wrong outcome =
+      needing states (r .state) (cond (leb (l .particulars .expiry .0) clock) (Answer.Refused Refusal.Expired) (judgedBy success several used wrong (trackOf l m) clock outcome))
 
   abbrev pub withoutCheck : List ℕ → ℕ → Answer
   withoutCheck states success = needing states (r .state) (Answer.Success success Content.Plain)
 
-  -- Part 5's table: the needed states, the success, what used and wrong are called, the check
+  -- Part 5's table: the needed states, the success, what several, used and wrong are called, the check; no pair has several
   abbrev pub requested : Request → Answer
-  requested (Request.login password) = withCheck (2 ∷ []) 0x0001 Refusal.UsedAtLogin Refusal.WrongAtLogin (single Small [] password)
-  requested (Request.challengeLogin challenge password) = withCheck (2 ∷ []) 0x0002 Refusal.UsedAtLogin Refusal.WrongAtLogin (single Small challenge password)
-  requested (Request.activate password following) = withCheck (1 ∷ []) 0x0101 Refusal.Used Refusal.Wrong (pair Large password following)
+  requested (Request.login password) = withCheck (2 ∷ []) 0x0001 Refusal.NextAtLogin Refusal.UsedAtLogin Refusal.WrongAtLogin (single Small [] password)
+  requested (Request.challengeLogin challenge password) = withCheck (2 ∷ []) 0x0002 Refusal.NextAtLogin Refusal.UsedAtLogin Refusal.WrongAtLogin (single Small challenge password)
+  requested (Request.activate password following) = withCheck (1 ∷ []) 0x0101 Refusal.NextWanted Refusal.Used Refusal.Wrong (pair Large password following)
   requested Request.lock = withoutCheck (2 ∷ []) 0x0102
-  requested (Request.unlock password) = withCheck (3 ∷ 4 ∷ []) 0x0103 Refusal.Used Refusal.Wrong (single Small [] password)
+  requested (Request.unlock password) = withCheck (3 ∷ 4 ∷ []) 0x0103 Refusal.NextWanted Refusal.Used Refusal.Wrong (single Small [] password)
   requested Request.suspend = withoutCheck (2 ∷ 3 ∷ 4 ∷ []) 0x0104
-  requested (Request.resume password) = withCheck (5 ∷ []) 0x0105 Refusal.Used Refusal.Wrong (single Small [] password)
+  requested (Request.resume password) = withCheck (5 ∷ []) 0x0105 Refusal.NextWanted Refusal.Used Refusal.Wrong (single Small [] password)
   requested (Request.sync choice password following) =
-      withCheck (2 ∷ 3 ∷ 4 ∷ []) 0x0108 Refusal.Used Refusal.WrongAtSync (pair (cond (eqb choice 1) Medium Large) password following)
+      withCheck (2 ∷ 3 ∷ 4 ∷ []) 0x0108 Refusal.NextWanted Refusal.Used Refusal.WrongAtSync (pair (cond (eqb choice 1) Medium Large) password following)
   requested Request.void = withoutCheck (1 ∷ 2 ∷ 3 ∷ 4 ∷ 5 ∷ []) 0x010a
   requested Request.query = Answer.Success 0x010b (Content.Queried (record { state = r .state; errors = r .errors; «last_use» = record { 0 = m .used } }))
 

@@ -101,8 +101,13 @@ counts f = oneOf (refusalNumber f) (0x8004 ∷ 0x8104 ∷ 0x8002 ∷ 0x8102 ∷ 
 abbrev pub errs : Refusal → Bool
 errs f = not (eqb (refusalNumber f) 0x9005) && counts f
 
--- a used and a wrong password count, and lock at a login
+-- a refusal that is neither 9005 nor counts
+abbrev pub quiet : Refusal → Type 0
+quiet f = (eqb (refusalNumber f) 0x9005 ≡ false) × (counts f ≡ false)
+
+-- a used and a wrong password count, and lock at a login; one that several steps have does not
 pub record Failing (request : Request) (f : Fails) : Type 0 where
+  pub several : quiet (f .several)
   pub used : errs (f .used) ≡ true
   pub wrong : errs (f .wrong) ≡ true
   pub locks : f .locks ≡ isLogin request
@@ -133,7 +138,7 @@ module _ (passwords : PasswordRule) (l : Loaded) (m : Marks) (r : Reading) (cloc
 
   module _ (P : Request → Answer → Type 0)
       (checks : (request : Request) (states : List ℕ) (success : ℕ) (f : Fails) (asked : Asked) (o : Outcome)
-      → Listed request states success (Checks asked f) → Failing request f → Checked request asked o → P request (withCheck passwords l m r clock states success (f .used) (f .wrong) o))
+      → Listed request states success (Checks asked f) → Failing request f → Checked request asked o → P request (withCheck passwords l m r clock states success (f .several) (f .used) (f .wrong) o))
       (changes : (request : Request) (states : List ℕ) (success : ℕ) → Listed request states success Changes → P request (withoutCheck passwords l m r clock states success))
       (tells : P Request.query (requested passwords l m r clock Request.query)) where
     -- what holds of every line holds of every request

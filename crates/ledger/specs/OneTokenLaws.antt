@@ -36,7 +36,7 @@ use Rattle.ledger.specs.Tokens.{Token, kept}
 use Rattle.ledger.specs.AcceptedLaws.{Acceptable}
 use Rattle.ledger.specs.HistoryTokens.{tokenWith}
 use Rattle.ledger.specs.EntryRow.{Agrees}
-use Rattle.ledger.specs.LineLaws.{stateBy, wipes, Listed, made-alike, alive, leads-to-void, counts, errs, Failing}
+use Rattle.ledger.specs.LineLaws.{stateBy, wipes, Listed, made-alike, alive, leads-to-void, errs, quiet, Failing}
 
 -- ---- a row and its readings, in either case
 
@@ -96,18 +96,18 @@ module _ (l : Loaded) (y : Reading) (m : Marks) (clock : ℕ) (t : Token) (keyed
     either-agrees false p q = q refl
 
     -- a refusal that is neither 9005 nor used nor wrong changes nothing
-    still-agrees : (f : Refusal) → eqb (refusalNumber f) 0x9005 ≡ false → counts f ≡ false → Alike (refusing f here) (Answer.Refused f)
-    still-agrees f n o = record { answer = refl; numbered = n; token = rw o (stored-token y m refl) }
+    still-agrees : (f : Refusal) → quiet f → Alike (refusing f here) (Answer.Refused f)
+    still-agrees f q = record { answer = refl; numbered = q .0; token = rw (q .1) (stored-token y m refl) }
 
     state-agrees : 0 < y .state → y .state ≤ 6 → (a : Answer) → Alike (refusing (stateRefusal (y .state)) here) (needing [] (y .state) a)
     state-agrees h high a =
         by-state (λ s. Alike (refusing (stateRefusal s) here) (needing [] s a))
-        (still-agrees Refusal.Inactive refl refl)
-        (still-agrees Refusal.Ready refl refl)
-        (still-agrees Refusal.Locked refl refl)
-        (still-agrees Refusal.Locked refl refl)
-        (still-agrees Refusal.Suspended refl refl)
-        (still-agrees Refusal.Void refl refl)
+        (still-agrees Refusal.Inactive (refl, refl))
+        (still-agrees Refusal.Ready (refl, refl))
+        (still-agrees Refusal.Locked (refl, refl))
+        (still-agrees Refusal.Locked (refl, refl))
+        (still-agrees Refusal.Suspended (refl, refl))
+        (still-agrees Refusal.Void (refl, refl))
         (y .state) (ne-eqb (y .state) 0 (λ e. omega arith), omega arith)
 
     module _ {states : List ℕ} {success : ℕ} {way : Way} (listed : Listed request states success way) (high : y .state ≤ 6) where
@@ -137,7 +137,7 @@ module _ (l : Loaded) (y : Reading) (m : Marks) (clock : ℕ) (t : Token) (keyed
             }
 
         module _ (f : Fails) (failing : Failing request f) where
-          accepted-agrees : (a : Step) → m .next ≤ a .0 → Alike (judging line f here clock (Outcome.Accepted a)) (judgedBy success (f .used) (f .wrong) (trackOf l m) clock (Outcome.Accepted a))
+          accepted-agrees : (a : Step) → m .next ≤ a .0 → Alike (judging line f here clock (Outcome.Accepted a)) (judgedBy success (f .several) (f .used) (f .wrong) (trackOf l m) clock (Outcome.Accepted a))
           unfolding accepted rowOf
           accepted-agrees a h =
               let e : max (a .0 + 1) (m .next) ≡ a .0 + 1 = omega arith in
@@ -167,12 +167,13 @@ module _ (l : Loaded) (y : Reading) (m : Marks) (clock : ℕ) (t : Token) (keyed
                     (stored-token (cond test locking counting) m (lives ∙ sym (either (λ (r : Reading). eqb (r .state) 6 ≡ false) test refl lives)));
               }
 
-          outcome-agrees : (o : Outcome) → IfAccepted (Acceptable (trackOf l m) clock) o → Alike (judging line f here clock o) (judgedBy success (f .used) (f .wrong) (trackOf l m) clock o)
+          outcome-agrees : (o : Outcome) → IfAccepted (Acceptable (trackOf l m) clock) o → Alike (judging line f here clock o) (judgedBy success (f .several) (f .used) (f .wrong) (trackOf l m) clock o)
           outcome-agrees (Outcome.Accepted a) good = accepted-agrees a (good .fresh)
+          outcome-agrees Outcome.Several good = still-agrees (f .several) (failing .several)
           outcome-agrees Outcome.Used good = failed-agrees (f .used) (failing .used)
           outcome-agrees Outcome.Wrong good = failed-agrees (f .wrong) (failing .wrong)
 
           pub check-agrees : (o : Outcome) → IfAccepted (Acceptable (trackOf l m) clock) o
-              → Alike (timely line f here clock o) (cond (leb (l .particulars .expiry .0) clock) (Answer.Refused Refusal.Expired) (judgedBy success (f .used) (f .wrong) (trackOf l m) clock o))
+              → Alike (timely line f here clock o) (cond (leb (l .particulars .expiry .0) clock) (Answer.Refused Refusal.Expired) (judgedBy success (f .several) (f .used) (f .wrong) (trackOf l m) clock o))
           unfolding rowOf
-          check-agrees o good = either-agrees (leb (l .particulars .expiry .0) clock) (λ t. still-agrees Refusal.Expired refl refl) (λ t. outcome-agrees o good)
+          check-agrees o good = either-agrees (leb (l .particulars .expiry .0) clock) (λ t. still-agrees Refusal.Expired (refl, refl)) (λ t. outcome-agrees o good)

@@ -80,7 +80,7 @@ module _ (passwords : PasswordRule) (l : Loaded) (older : List Entry) (x : Readi
       (λ made. changing-agrees l y m clock t keyed request listed upper made)))
 
   checks-enters : (request : Request) (states : List ℕ) (success : ℕ) (f : Fails) (asked : Asked) (o : Outcome) → Listed request states success (Checks asked f) → Failing request f
-      → Checked passwords l m y clock request asked o → requestOk request ≡ true → Enters request (withCheck passwords l m y clock states success (f .used) (f .wrong) o)
+      → Checked passwords l m y clock request asked o → requestOk request ≡ true → Enters request (withCheck passwords l m y clock states success (f .several) (f .used) (f .wrong) o)
   unfolding decided deciding rowOf
   checks-enters request states success f asked o listed failing checked ok =
       let upper = run-out-high l clock x high in

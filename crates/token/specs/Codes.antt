@@ -1,4 +1,4 @@
--- The numbers and values that document 01 gives to each answer.
+-- The numbers and values that document 01 gives to each answer, and document 02 to those that it adds.
 use Prim.Native.Nat.{ℕ, _-_}
 use mathlib.Core.Bool.{cond}
 use mathlib.Core.List.{List, [], _∷_}
@@ -21,6 +21,8 @@ refusalNumber Refusal.Suspended = 0x8405
 refusalNumber Refusal.Inactive = 0x8406
 refusalNumber Refusal.Void = 0x8407
 refusalNumber Refusal.Expired = 0x8408
+refusalNumber Refusal.NextAtLogin = 0x8001
+refusalNumber Refusal.NextWanted = 0x8101
 refusalNumber Refusal.UsedAtLogin = 0x8004
 refusalNumber Refusal.Used = 0x8104
 refusalNumber Refusal.WrongAtLogin = 0x8002

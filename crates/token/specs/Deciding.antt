@@ -45,10 +45,11 @@ telling l r =
       left = Left.Same;
     }
 
--- the check's outcome decides: success, used, wrong
+-- the check's outcome decides: success, several, used, wrong; several is no error
 abbrev pub judging : Line → Fails → Row → ℕ → Outcome → Decision
 judging l f r clock (Outcome.Accepted a) =
     record { answer = Answer.Success (l .success) (Content.Checked a (offsetAfter (r .track) clock (a .0))); left = leftBy (l .after) (accepted r clock (a .0)) }
+judging l f r clock Outcome.Several = refusing (f .several) r
 judging l f r clock Outcome.Used = refusing (f .used) (failed r clock (f .locks))
 judging l f r clock Outcome.Wrong = refusing (f .wrong) (failed r clock (f .locks))
 

@@ -42,6 +42,7 @@ pub checked-near : (passwords : PasswordRule) (k : Track) (clock : ℕ) (key cha
     → Sound k clock → o ≡ outcomeOf passwords k clock key challenge asked → IfAccepted (Near k clock) o
 checked-near passwords k clock key challenge asked (Outcome.Accepted a) good e =
     candidate-accepted k clock (windowSize asked) (a .0) good (asked-accepts-candidate passwords k clock key challenge asked (sym e))
+checked-near passwords k clock key challenge asked Outcome.Several good e = tt
 checked-near passwords k clock key challenge asked Outcome.Used good e = tt
 checked-near passwords k clock key challenge asked Outcome.Wrong good e = tt
 

@@ -37,15 +37,15 @@ suspended = 5
 abbrev pub void : ℕ
 void = 6
 
--- what a used and a wrong password are called, and whether errors lock the token
+-- what a password that several fresh steps have is called (document 02, Ask 5), which no pair is, a used one and a wrong one, and whether errors lock the token
 abbrev pub atLogin : Fails
-atLogin = record { used = Refusal.UsedAtLogin; wrong = Refusal.WrongAtLogin; locks = true }
+atLogin = record { several = Refusal.NextAtLogin; used = Refusal.UsedAtLogin; wrong = Refusal.WrongAtLogin; locks = true }
 
 abbrev pub atSync : Fails
-atSync = record { used = Refusal.Used; wrong = Refusal.WrongAtSync; locks = false }
+atSync = record { several = Refusal.NextWanted; used = Refusal.Used; wrong = Refusal.WrongAtSync; locks = false }
 
 abbrev pub elsewhere : Fails
-elsewhere = record { used = Refusal.Used; wrong = Refusal.Wrong; locks = false }
+elsewhere = record { several = Refusal.NextWanted; used = Refusal.Used; wrong = Refusal.Wrong; locks = false }
 
 abbrev pub listed : Needs → Way → ℕ → After → Line
 listed needs way success after = record { needs = needs; way = way; success = success; after = after }

@@ -75,5 +75,6 @@ pub record Near (k : Track) (clock a : ℕ) : Type 0 where
 -- the step of an accepting outcome is such
 abbrev pub IfAccepted : (ℕ → Type 0) → Outcome → Type 0
 IfAccepted P (Outcome.Accepted a) = P (a .0)
+IfAccepted P Outcome.Several = Unit {0}
 IfAccepted P Outcome.Used = Unit {0}
 IfAccepted P Outcome.Wrong = Unit {0}

@@ -29,6 +29,8 @@ pub enum Refusal {
     Inactive,
     Void,
     Expired,
+    NextAtLogin,
+    NextWanted,
     UsedAtLogin,
     Used,
     WrongAtLogin,

@@ -19,6 +19,8 @@ fn refusal_number(refusal: Refusal) -> u16
         Refusal::Inactive => 0x8406,
         Refusal::Void => 0x8407,
         Refusal::Expired => 0x8408,
+        Refusal::NextAtLogin => 0x8001,
+        Refusal::NextWanted => 0x8101,
         Refusal::UsedAtLogin => 0x8004,
         Refusal::Used => 0x8104,
         Refusal::WrongAtLogin => 0x8002,

@@ -92,7 +92,7 @@ fn telling(line: Line, row: Row) -> Decision
     }
 }
 
-// The check's outcome decides: success, used, wrong.
+// The check's outcome decides: success, several, used, wrong. A password that several fresh steps have is no error: the next one will tell.
 fn judging(line: Line, fails: Fails, row: Row, clock: Seconds, outcome: Outcome) -> Decision
     requires { ⌜ Sound (row .track) (clock .0) ⌝ }
     requires { ⌜ IfAccepted (Near (row .track) (clock .0)) outcome ⌝ }
@@ -107,6 +107,10 @@ fn judging(line: Line, fails: Fails, row: Row, clock: Seconds, outcome: Outcome)
                 answer: Answer::Success(line.success, Content::Checked(a, offset)),
                 left,
             }
+        }
+        Outcome::Several => {
+            let refusal = fails.several;
+            refusing(refusal, row)
         }
         Outcome::Used => {
             let refusal = fails.used;

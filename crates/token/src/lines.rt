@@ -27,26 +27,30 @@ pub enum Request {
     Query,
 }
 
-// What a used and a wrong password are called, and whether errors lock the token.
+// What a password that several fresh steps have is called, which no pair is, a used one and a wrong one, and whether errors lock the token.
 pub struct Fails {
+    pub several: Refusal,
     pub used: Refusal,
     pub wrong: Refusal,
     pub locks: bool,
 }
 
 const AT_LOGIN: Fails = Fails {
+    several: Refusal::NextAtLogin,
     used: Refusal::UsedAtLogin,
     wrong: Refusal::WrongAtLogin,
     locks: true,
 };
 
 const AT_SYNC: Fails = Fails {
+    several: Refusal::NextWanted,
     used: Refusal::Used,
     wrong: Refusal::WrongAtSync,
     locks: false,
 };
 
 const ELSEWHERE: Fails = Fails {
+    several: Refusal::NextWanted,
     used: Refusal::Used,
     wrong: Refusal::Wrong,
     locks: false,

@@ -1,10 +1,10 @@
--- The single and the pair check (document 01, Part 3), over any predicate "step s has this password".
+-- The single and the pair check (document 01, Part 3; document 02, Ask 5), over any predicate "step s has this password".
 use Prim.Native.Nat.{ℕ, zero, suc, _+_}
 use mathlib.Core.Bool.{Bool, cond, _&&_}
 use mathlib.Core.Option.{Option, none, some}
 use lib.Dec.{leb, ltb}
 use Rattle.window.specs.declared.Outcome.{Outcome}
-use Rattle.window.specs.declared.Outcome.the-variants.{Accepted, Used, Wrong}
+use Rattle.window.specs.declared.Outcome.the-variants.{Accepted, Several, Used, Wrong}
 
 abbrev pub orElse : Option ℕ → Option ℕ → Option ℕ
 orElse none b = b
@@ -14,6 +14,11 @@ orElse (some x) b = some x
 unfoldable pub smallest : (ℕ → Bool) → ℕ → Option ℕ
 smallest test zero = none
 smallest test (suc n) = orElse (smallest test n) (cond (test n) (some n) none)
+
+-- how many numbers below n pass the test
+unfoldable pub howMany : (ℕ → Bool) → ℕ → ℕ
+howMany test zero = 0
+howMany test (suc n) = howMany test n + cond (test n) 1 0
 
 -- a step is fresh if it is at least `next`, the first unused step (document 01's terms); hits are candidates that match
 abbrev pub freshHit : (ℕ → Bool) → ℕ → ℕ → Bool
@@ -31,6 +36,10 @@ judged none none = Wrong
 unfoldable pub checked : (ℕ → Bool) → ℕ → ℕ → Outcome
 checked hit next n = judged (smallest (freshHit hit next) n) (smallest (usedHit hit next) n)
 
+-- one password that two or more fresh steps have is not accepted
+abbrev pub onlyOne : ℕ → Outcome → Outcome
+onlyOne fresh o = cond (leb 2 fresh) Several o
+
 -- single check: a hit is a candidate that matches
 abbrev pub singleHit : (ℕ → Bool) → (ℕ → Bool) → ℕ → Bool
 singleHit candidate matches s = candidate s && matches s
@@ -39,8 +48,9 @@ singleHit candidate matches s = candidate s && matches s
 abbrev pub pairHit : (ℕ → Bool) → (ℕ → Bool) → (ℕ → Bool) → ℕ → Bool
 pairHit candidate first second s = (candidate s && candidate (s + 1)) && (first s && second (s + 1))
 
--- the accepted step stands `ahead` of the hit: it is the hit itself, and s + 1 for a pair
+-- the accepted step stands `ahead` of the hit: it is s + 1 for a pair
 abbrev pub settled : ℕ → Outcome → Outcome
 settled ahead (Accepted s) = Accepted (record { 0 = s .0 + ahead })
+settled ahead Several = Several
 settled ahead Used = Used
 settled ahead Wrong = Wrong

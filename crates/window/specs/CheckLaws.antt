@@ -10,8 +10,9 @@ use native.Mathlib.Omega.{arith}
 use borrow.Author.Tests.{le-leb, lt-leb, lt-ltb, le-ltb}
 use lib.Dec.{leb, ltb}
 use Rattle.words.specs.BoolLaws.{and-false, impossible}
-use Rattle.window.specs.declared.Outcome.the-variants.{Accepted, Used, Wrong}
-use Rattle.window.specs.Check.{orElse, smallest, freshHit, usedHit, judged, checked}
+use Rattle.window.specs.declared.Outcome.{Outcome}
+use Rattle.window.specs.declared.Outcome.the-variants.{Accepted, Several, Used, Wrong}
+use Rattle.window.specs.Check.{orElse, smallest, freshHit, usedHit, judged, checked, settled}
 use Rattle.window.specs.Sweep.{unaccepted}
 
 -- no number below n passes the test
@@ -53,6 +54,24 @@ order r zero = inr zero-le
 order zero (suc s) = inl (omega arith)
 order (suc r) (suc s) = ⊎-elim (λ (l : r < s). inl (omega arith)) (λ (l : s ≤ r). inr (omega arith)) (order r s)
 
+-- ---- what a number that does not pass leaves as it was
+
+module _ {A : Type 0} (f : ℕ → A) (test : ℕ → Bool) (stays : (n : ℕ) → test n ≡ false → f (n + 1) ≡ f n) where
+  -- many leave it too
+  pub misses-leave : (s n : ℕ) → ((r : ℕ) → s ≤ r → r < s + n → test r ≡ false) → f (s + n) ≡ f s
+  misses-leave s zero h = rw (add-zero s)
+  misses-leave s (suc n) h =
+      let e : s + suc n ≡ s + n + 1 = omega arith in
+      rw e (stays (s + n) (h (s + n) (omega arith) (omega arith)) ∙ misses-leave s n (λ r l m. h r l (omega arith)))
+
+  -- where none passes from one of two numbers on, it does not matter at which of them one ends
+  pub same-past : (s n : ℕ) → ((r : ℕ) → min s n ≤ r → test r ≡ false) → f n ≡ f s
+  same-past s n h =
+      ⊎-elim
+      (λ (l : s < n). let e : n ≡ s + (n - s) = omega arith in ap f e ∙ misses-leave s (n - s) (λ r a b. h r (omega arith)))
+      (λ (l : n ≤ s). let e : s ≡ n + (s - n) = omega arith in sym (ap f e ∙ misses-leave n (s - n) (λ r a b. h r (omega arith))))
+      (order s n)
+
 -- ---- the check, a step higher
 
 module _ (hit : ℕ → Bool) (next : ℕ) where
@@ -69,21 +88,6 @@ module _ (hit : ℕ → Bool) (next : ℕ) where
       or-none : (o : Option ℕ) → orElse o none ≡ o
       or-none none = refl
       or-none (some x) = refl
-
-  -- nor do many
-  pub checked-misses : (s n : ℕ) → ((r : ℕ) → s ≤ r → r < s + n → hit r ≡ false) → checked hit next (s + n) ≡ checked hit next s
-  checked-misses s zero h = rw (add-zero s)
-  checked-misses s (suc n) h =
-      let e : s + suc n ≡ s + n + 1 = omega arith in
-      rw e (checked-miss (s + n) (h (s + n) (omega arith) (omega arith)) ∙ checked-misses s n (λ r l m. h r l (omega arith)))
-
-  -- where there is no hit from one of two steps on, it does not matter at which of them the check ends
-  pub checked-same : (s n : ℕ) → ((r : ℕ) → min s n ≤ r → hit r ≡ false) → checked hit next n ≡ checked hit next s
-  checked-same s n h =
-      ⊎-elim
-      (λ (l : s < n). let e : n ≡ s + (n - s) = omega arith in ap (checked hit next) e ∙ checked-misses s (n - s) (λ r a b. h r (omega arith)))
-      (λ (l : n ≤ s). let e : s ≡ n + (s - n) = omega arith in sym (ap (checked hit next) e ∙ checked-misses n (s - n) (λ r a b. h r (omega arith))))
-      (order s n)
 
   pub checked-none : checked hit next 0 ≡ Wrong
   unfolding checked smallest
@@ -137,3 +141,10 @@ checked-agree hit other next n h =
     ap₂ judged
     (smallest-agree (freshHit hit next) (freshHit other next) (λ s. ap (λ (b : Bool). leb next s && b) (h s)) n)
     (smallest-agree (usedHit hit next) (usedHit other next) (λ s. ap (λ (b : Bool). ltb s next && b) (h s)) n)
+
+-- what is accepted at the hit itself
+pub settled-none : (o : Outcome) → settled 0 o ≡ o
+settled-none (Accepted s) = rw (add-zero (s .0))
+settled-none Several = refl
+settled-none Used = refl
+settled-none Wrong = refl

@@ -2,7 +2,7 @@
 use Prim.Native.Nat.{ℕ, _%_, _^_}
 use mathlib.Core.Bool.{Bool, true, false, cond, not, _&&_, _||_}
 use mathlib.Core.List.{List}
-use lib.Dec.{eqb}
+use lib.Dec.{eqb, ltb}
 use Rattle.otp.specs.declared.typed.Password.{Password}
 use Rattle.otp.specs.declared.lists.Maker.{Maker}
 use Rattle.otp.specs.CutLists.{stepCut}
@@ -25,6 +25,10 @@ aheadBy goal = cond (goal .pair) 1 0
 -- x is the cut of the step that hits, y that of the step to accept
 unfoldable pub hits : Goal → ℕ → ℕ → Bool
 hits goal x y = eqb (y % goal .modulus) (goal .last) && (not (goal .pair) || eqb (x % goal .modulus) (goal .before))
+
+-- how many of the `left` steps past one with the cut x a pair reaches for certain: it begins there, or at the next at the earliest
+abbrev pub moreSure : Goal → ℕ → ℕ → ℕ
+moreSure goal x left = cond (ltb left 2 || eqb (x % goal .modulus) (goal .before)) 1 2
 
 -- how a token's steps are cut: by its algorithm, as times or as counts
 abbrev pub makerOf : Scheme → Maker

@@ -1,12 +1,13 @@
 -- A goal's cuts are those of the steps that have its passwords.
-use Prim.Native.Nat.{ℕ, _+_, _-_, _%_, _^_, _<_}
+use Prim.Native.Nat.{ℕ, _+_, _-_, _%_, _^_, _≤_, _<_}
 use mathlib.Core.Path.{_≡_, refl, sym, ap, _∙_}
 use mathlib.Core.Bool.{Bool, true, false, not, _&&_, _||_}
 use mathlib.Core.List.{List}
 use native.Mathlib.Nat.{one-le-pow, zero-lt-suc}
-use borrow.Author.Tests.{eq-eqb, ne-eqb}
-use lib.Dec.{eqb}
-use Rattle.words.specs.BoolLaws.{and-true}
+use native.Mathlib.Omega.{arith}
+use borrow.Author.Tests.{eq-eqb, ne-eqb, ltb-false}
+use lib.Dec.{eqb, ltb}
+use Rattle.words.specs.BoolLaws.{and-right, and-true, or-left, or-true, either-by}
 use Rattle.otp.specs.declared.typed.Password.{Password}
 use Rattle.otp.specs.Password.{shown, passwordOf}
 use Rattle.otp.specs.Typed.{digitsOf}
@@ -15,7 +16,7 @@ use Rattle.otp.specs.CutLists.{stepCut}
 use Rattle.window.specs.declared.Scheme.{Scheme}
 use Rattle.window.specs.declared.goal.Goal.{Goal}
 use Rattle.window.specs.PasswordAt.{passwordAt, hasBy}
-use Rattle.window.specs.Goal.{singleGoal, pairGoal, hits, cutAt}
+use Rattle.window.specs.Goal.{singleGoal, pairGoal, hits, moreSure, cutAt}
 
 -- ---- the goals
 
@@ -40,6 +41,21 @@ module _ (goal : Goal) (x y : ℕ) where
   pub hits-last : y % goal .modulus ≡ goal .last → not (goal .pair) || eqb (x % goal .modulus) (goal .before) ≡ hits goal x y
   unfolding hits
   hits-last e = rw (eq-eqb (y % goal .modulus) (goal .last) e)
+
+-- ---- the steps that a pair reaches for certain
+
+module _ (goal : Goal) (x left : ℕ) {n : ℕ} (e : n ≡ moreSure goal x left) where
+  pub more-left : 0 < left → n ≤ left
+  more-left l =
+      rw e (either-by (λ (k : ℕ). k ≤ left) (ltb left 2 || eqb (x % goal .modulus) (goal .before)) (λ t. omega arith)
+      (λ t. ltb-false left 2 (or-left _ _ t)))
+
+  -- at a step that hits no more than the next
+  pub more-hit : (y : ℕ) → goal .pair ≡ true → hits goal x y ≡ true → n ≡ 1
+  unfolding hits
+  more-hit y p t =
+      let b : eqb (x % goal .modulus) (goal .before) ≡ true = rw p at (and-right (eqb (y % goal .modulus) (goal .last)) _ t) in
+      rw (e, b, or-true (ltb left 2))
 
 -- ---- cuts and passwords
 

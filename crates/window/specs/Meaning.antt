@@ -1,31 +1,26 @@
--- What the checks of a token mean, in words a reader knows: accepted, used and wrong, each exactly when it should be.
+-- What the checks of a token mean, in words a reader knows: accepted, several, used and wrong, each exactly when it should be.
 use Prim.Native.Nat.{ℕ, _+_, _≤_, _<_}
 use mathlib.Core.Path.{_≡_, refl, sym, ap, _∙_}
 use mathlib.Core.Bool.{Bool, true, false, _&&_}
-use mathlib.Core.List.{List}
 use mathlib.Core.Logic.{⊎-elim}
 use mathlib.Core.Option.{Option, none, some}
 use native.Mathlib.Nat.{add-zero, le-trans}
 use native.Mathlib.Omega.{arith}
-use borrow.Author.Tests.{eq-eqb, leb-true, lt-ltb, le-leb, ltb-true}
+use borrow.Author.Tests.{eq-eqb, leb-true, leb-false, lt-ltb, le-leb, ltb-true}
 use lib.Dec.{leb, ltb}
 use Rattle.words.specs.BoolLaws.{and-left, and-right, by-test, and-both, clash, impossible}
 use Rattle.window.specs.declared.Size.{Size}
 use Rattle.window.specs.declared.Step.{Step}
 use Rattle.window.specs.declared.Track.{Track}
 use Rattle.window.specs.declared.Outcome.{Outcome}
-use Rattle.window.specs.declared.asked.Asked.{Asked}
-use Rattle.window.specs.declared.Outcome.the-variants.{Accepted, Used, Wrong}
+use Rattle.window.specs.declared.Outcome.the-variants.{Accepted, Several, Used, Wrong}
 use Rattle.window.specs.Window.{timeToken, stepAt, distance, timeWidth, farthest, timeCandidate, candidate, beyond}
 use Rattle.window.specs.Range.{firstStep, endStep}
 use Rattle.window.specs.WindowLaws.{candidates-are-range, end-below}
-use Rattle.window.specs.Check.{smallest, freshHit, usedHit, judged, checked, singleHit, pairHit, settled}
-use Rattle.window.specs.CheckLaws.{NoneBelow, Found, found, missing, smallest-found, order}
-use Rattle.window.specs.TokenCheck.{singleCheck, pairCheck}
-use Rattle.window.specs.PasswordAt.{PasswordRule}
-use Rattle.window.specs.Asked.{outcomeOf, windowSize}
-use Rattle.window.specs.Sweep.{howMany, sweptTo, countsRight, computedOf}
-use Rattle.window.specs.SweepLaws.{candidates-below}
+use Rattle.window.specs.Check.{smallest, howMany, freshHit, usedHit, judged, checked, onlyOne, singleHit, pairHit, settled}
+use Rattle.window.specs.CheckLaws.{NoneBelow, Found, found, missing, smallest-found, order, settled-none}
+use Rattle.window.specs.ManyLaws.{many-one, one-many, many-two, two-many}
+use Rattle.window.specs.TokenCheck.{freshMatches, singleCheck, pairCheck}
 
 -- no number passes the test
 abbrev pub Never : (ℕ → Bool) → Type 0
@@ -42,25 +37,45 @@ first-unique test {r} {s} p q =
     (λ (l : s ≤ r). ⊎-elim (λ (m : s < r). clash (q .passes) (p .before s m)) (λ (m : r ≤ s). omega arith) (order s r))
     (order r s)
 
--- what an outcome says of the hits, exactly: the smallest fresh one is accepted, or the step ahead of it; used, if none is fresh and one is not; wrong, if there is none
-pub record Means (hit : ℕ → Bool) (ahead next : ℕ) (o : Outcome) : Type 0 where
-  pub accepted : ((a : Step) → o ≡ Accepted a → (s : ℕ) × ((a .0 ≡ s + ahead) × First (freshHit hit next) s))
-      × ((s : ℕ) → First (freshHit hit next) s → o ≡ Accepted (record { 0 = s + ahead }))
+-- s passes the test, and no other number does
+pub record Only (test : ℕ → Bool) (s : ℕ) : Type 0 where
+  pub passes : test s ≡ true
+  pub alone : (r : ℕ) → test r ≡ true → r ≡ s
+
+-- two numbers pass the test
+abbrev pub Two : (ℕ → Bool) → Type 0
+Two test = (r : ℕ) × ((s : ℕ) × ((r < s) × ((test r ≡ true) × (test s ≡ true))))
+
+-- what an outcome says of the hits, exactly: the hit that is chosen is accepted, or the step ahead of it; several, if that is a reason to accept none; used, if none is fresh and one is not; wrong, if there is none
+pub record Means (Chosen : ℕ → Type 0) (Many : Type 0) (hit : ℕ → Bool) (ahead next : ℕ) (o : Outcome) : Type 0 where
+  pub accepted : ((a : Step) → o ≡ Accepted a → (s : ℕ) × ((a .0 ≡ s + ahead) × Chosen s)) × ((s : ℕ) → Chosen s → o ≡ Accepted (record { 0 = s + ahead }))
+  pub several : (o ≡ Several → Many) × (Many → o ≡ Several)
   pub used : (o ≡ Used → Never (freshHit hit next) × ((s : ℕ) × (usedHit hit next s ≡ true)))
       × (Never (freshHit hit next) → (s : ℕ) → usedHit hit next s ≡ true → o ≡ Used)
   pub wrong : (o ≡ Wrong → Never hit) × (Never hit → o ≡ Wrong)
+
+-- of a pair the smallest fresh hit is chosen, of one password the only one
+abbrev pub MeansFirst : (ℕ → Bool) → ℕ → ℕ → Outcome → Type 0
+MeansFirst hit ahead next = Means (First (freshHit hit next)) ⊥ hit ahead next
+
+abbrev pub MeansOnly : (ℕ → Bool) → ℕ → ℕ → Outcome → Type 0
+MeansOnly hit ahead next = Means (Only (freshHit hit next)) (Two (freshHit hit next)) hit ahead next
 
 -- ---- over any hits below a bound
 
 -- the step of an accepting outcome
 abbrev at : Outcome → ℕ
 at (Accepted s) = s .0
+at Several = 0
 at Used = 0
 at Wrong = 0
 
 module _ (hit : ℕ → Bool) (ahead next n : ℕ) (bounded : (r : ℕ) → hit r ≡ true → r < n) where
+  fresh-bounded : (r : ℕ) → freshHit hit next r ≡ true → r < n
+  fresh-bounded r t = bounded r (and-right (leb next r) _ t)
+
   none-fresh : NoneBelow (freshHit hit next) n → Never (freshHit hit next)
-  none-fresh h r = by-test (freshHit hit next r) (λ t. clash t (h r (bounded r (and-right (leb next r) _ t)))) (λ t. t)
+  none-fresh h r = by-test (freshHit hit next r) (λ t. clash t (h r (fresh-bounded r t))) (λ t. t)
 
   none-hit : NoneBelow (freshHit hit next) n → NoneBelow (usedHit hit next) n → Never hit
   none-hit f u r =
@@ -70,38 +85,120 @@ module _ (hit : ℕ → Bool) (ahead next n : ℕ) (bounded : (r : ℕ) → hit 
       (λ (l : next ≤ r). clash (and-both (le-leb next r l) t) (f r (bounded r t))) (order r next))
       (λ t. t)
 
-  accepted-means : (s : ℕ) → First (freshHit hit next) s → Means hit ahead next (Accepted (record { 0 = s + ahead }))
-  accepted-means s f =
+  -- a choice among fresh hits, or a reason to make none
+  record Choice (Chosen : ℕ → Type 0) (Many : Type 0) : Type 0 where
+    hits : (s : ℕ) → Chosen s → freshHit hit next s ≡ true
+    unique : (r s : ℕ) → Chosen r → Chosen s → r ≡ s
+    many : Many → (s : ℕ) × (freshHit hit next s ≡ true)
+    apart : (s : ℕ) → Chosen s → Many → ⊥
+
+  first-choice : Choice (First (freshHit hit next)) ⊥
+  first-choice = record { hits = λ s f. f .passes; unique = λ r s f g. first-unique (freshHit hit next) f g; many = λ m. absurd m; apart = λ s f m. m }
+
+  only-choice : Choice (Only (freshHit hit next)) (Two (freshHit hit next))
+  only-choice =
       record {
-        accepted = (λ a e. (s, (sym (ap at e), f)), λ r g. let e = first-unique (freshHit hit next) f g in rw e);
-        used = (λ e. impossible (cc), λ h r u. clash (f .passes) (h s));
-        wrong = (λ e. impossible (cc), λ h. clash (and-right (leb next s) _ (f .passes)) (h s));
+        hits = λ s f. f .passes;
+        unique = λ r s f g. g .alone r (f .passes);
+        many = λ m. (m .0, m .1 .1 .1 .0);
+        apart = λ s f m. omega (arith, f .alone (m .0) (m .1 .1 .1 .0), f .alone (m .1 .0) (m .1 .1 .1 .1), m .1 .1 .0);
       }
 
-  used-means : (s : ℕ) → Never (freshHit hit next) → usedHit hit next s ≡ true → Means hit ahead next Used
-  used-means s h u =
+  module _ {Chosen : ℕ → Type 0} {Many : Type 0} (choice : Choice Chosen Many) where
+    accepted-means : (s : ℕ) → Chosen s → Means Chosen Many hit ahead next (Accepted (record { 0 = s + ahead }))
+    accepted-means s f =
+        let t = choice .hits s f in
+        record {
+          accepted = (λ a e. (s, (sym (ap at e), f)), λ r g. let e = choice .unique s r f g in rw e);
+          several = (λ e. impossible (cc), λ m. absurd (choice .apart s f m));
+          used = (λ e. impossible (cc), λ h r u. clash t (h s));
+          wrong = (λ e. impossible (cc), λ h. clash (and-right (leb next s) _ t) (h s));
+        }
+
+    several-means : Many → Means Chosen Many hit ahead next Several
+    several-means m =
+        let s = choice .many m in
+        record {
+          accepted = (λ a e. impossible (cc), λ r g. absurd (choice .apart r g m));
+          several = (λ e. m, λ i. refl);
+          used = (λ e. impossible (cc), λ h r u. clash (s .1) (h (s .0)));
+          wrong = (λ e. impossible (cc), λ h. clash (and-right (leb next (s .0)) _ (s .1)) (h (s .0)));
+        }
+
+    used-means : (s : ℕ) → Never (freshHit hit next) → usedHit hit next s ≡ true → Means Chosen Many hit ahead next Used
+    used-means s h u =
+        record {
+          accepted = (λ a e. impossible (cc), λ r g. clash (choice .hits r g) (h r));
+          several = (λ e. impossible (cc), λ m. let r = choice .many m in clash (r .1) (h (r .0)));
+          used = (λ e. (h, (s, u)), λ i r v. refl);
+          wrong = (λ e. impossible (cc), λ i. clash (and-right (ltb s next) _ u) (i s));
+        }
+
+    wrong-means : Never hit → Means Chosen Many hit ahead next Wrong
+    wrong-means h =
+        record {
+          accepted = (λ a e. impossible (cc), λ r g. clash (and-right (leb next r) _ (choice .hits r g)) (h r));
+          several = (λ e. impossible (cc), λ m. let r = choice .many m in clash (and-right (leb next (r .0)) _ (r .1)) (h (r .0)));
+          used = (λ e. impossible (cc), λ i r u. clash (and-right (ltb r next) _ u) (h r));
+          wrong = (λ e. h, λ i. refl);
+        }
+
+    -- what the check finds, where the smallest fresh hit is the chosen one
+    found-means : ((s : ℕ) → First (freshHit hit next) s → Chosen s) → Means Chosen Many hit ahead next (settled ahead (checked hit next n))
+    unfolding checked
+    found-means choose = by-found (smallest (freshHit hit next) n) (smallest-found (freshHit hit next) n) (smallest (usedHit hit next) n) (smallest-found (usedHit hit next) n)
+      where
+        by-found : (o : Option ℕ) → Found (freshHit hit next) n o → (u : Option ℕ) → Found (usedHit hit next) n u → Means Chosen Many hit ahead next (settled ahead (judged o u))
+        by-found (some s) (found l) u f = accepted-means s (choose s (record { passes = l .passes; before = l .before }))
+        by-found none (missing h) (some s) (found l) = used-means s (none-fresh h) (l .passes)
+        by-found none (missing h) none (missing i) = wrong-means (none-hit h i)
+
+  pub check-means : MeansFirst hit ahead next (settled ahead (checked hit next n))
+  check-means = found-means first-choice (λ s f. f)
+
+  -- ---- one password: how many fresh steps hit
+
+  abbrev fresh : ℕ
+  fresh = howMany (freshHit hit next) n
+
+  fresh-two : 2 ≤ fresh → Two (freshHit hit next)
+  fresh-two l = let r = many-two (freshHit hit next) n l in (r .0, (r .1 .0, (r .1 .1 .0, r .1 .1 .1 .1)))
+
+  fresh-only : fresh < 2 → (s : ℕ) → freshHit hit next s ≡ true → Only (freshHit hit next) s
+  fresh-only few s t =
       record {
-        accepted = (λ a e. impossible (cc), λ r g. clash (g .passes) (h r));
-        used = (λ e. (h, (s, u)), λ i r v. refl);
-        wrong = (λ e. impossible (cc), λ i. clash (and-right (ltb s next) _ u) (i s));
+        passes = t;
+        alone = λ r u.
+            ⊎-elim (λ (l : r < s). absurd (omega (arith, two-many (freshHit hit next) n l (fresh-bounded s t) u t)))
+            (λ (l : s ≤ r). ⊎-elim (λ (m : s < r). absurd (omega (arith, two-many (freshHit hit next) n m (fresh-bounded r u) t u))) (λ (m : r ≤ s). omega arith) (order s r))
+            (order r s);
       }
 
-  wrong-means : Never hit → Means hit ahead next Wrong
-  wrong-means h =
-      record {
-        accepted = (λ a e. impossible (cc), λ r g. clash (and-right (leb next r) _ (g .passes)) (h r));
-        used = (λ e. impossible (cc), λ i r u. clash (and-right (ltb r next) _ u) (h r));
-        wrong = (λ e. h, λ i. refl);
-      }
+  pub only-means : MeansOnly hit ahead next (onlyOne fresh (settled ahead (checked hit next n)))
+  only-means =
+      by-test (leb 2 fresh)
+      (λ t. rw t (several-means only-choice (fresh-two (leb-true 2 fresh t))))
+      (λ t. rw t (found-means only-choice (λ s f. fresh-only (leb-false 2 fresh t) s (f .passes))))
 
-  pub check-means : Means hit ahead next (settled ahead (checked hit next n))
-  unfolding checked
-  check-means = by-found (smallest (freshHit hit next) n) (smallest-found (freshHit hit next) n) (smallest (usedHit hit next) n) (smallest-found (usedHit hit next) n)
-    where
-      by-found : (o : Option ℕ) → Found (freshHit hit next) n o → (u : Option ℕ) → Found (usedHit hit next) n u → Means hit ahead next (settled ahead (judged o u))
-      by-found (some s) (found l) u f = accepted-means s (record { passes = l .passes; before = l .before })
-      by-found none (missing h) (some s) (found l) = used-means s (none-fresh h) (l .passes)
-      by-found none (missing h) none (missing i) = wrong-means (none-hit h i)
+  -- accepted exactly with one, several exactly with more
+  module _ (o : Outcome) (means : MeansOnly hit ahead next o) where
+    pub one-accepted : ((a : Step) → o ≡ Accepted a → fresh ≡ 1) × (fresh ≡ 1 → (a : Step) × (o ≡ Accepted a))
+    one-accepted = (
+      λ a e.
+          let s = means .accepted .0 a e in
+          let t = s .1 .1 .passes in
+          let l = one-many (freshHit hit next) n (fresh-bounded (s .0) t) t in
+          by-test (leb 2 fresh)
+          (λ u. absurd (only-choice .apart (s .0) (s .1 .1) (fresh-two (leb-true 2 fresh u))))
+          (λ u. omega (arith, leb-false 2 fresh u)),
+      λ e. let r = many-one (freshHit hit next) n (omega arith) in (_, means .accepted .1 (r .0) (fresh-only (omega arith) (r .0) (r .1 .1))),
+    )
+
+    pub more-several : (o ≡ Several → 2 ≤ fresh) × (2 ≤ fresh → o ≡ Several)
+    more-several = (
+      λ e. let r = means .several .0 e in two-many (freshHit hit next) n (r .1 .1 .0) (fresh-bounded (r .1 .0) (r .1 .1 .1 .1)) (r .1 .1 .1 .0) (r .1 .1 .1 .1),
+      λ l. means .several .1 (fresh-two l),
+    )
 
 -- ---- a token's candidates
 
@@ -120,11 +217,11 @@ module _ (k : Track) (clock : ℕ) (size : Size) where
       (and-right (leb (distance (s + farthest) (stepAt clock (k .period) + k .offset .0)) (timeWidth size)) _ c)
 
   module _ (matches : ℕ → Bool) where
-    pub single-means : Means (singleHit (candidate k clock size) matches) 0 (k .next .0) (singleCheck k clock size matches)
-    unfolding singleCheck
+    pub single-means : MeansOnly (singleHit (candidate k clock size) matches) 0 (k .next .0) (singleCheck k clock size matches)
+    unfolding singleCheck freshMatches
     single-means =
-        check-means (singleHit (candidate k clock size) matches) 0 (k .next .0) (beyond k clock)
-        (λ s t. candidate-bounded s (and-left _ _ t))
+        rw (← settled-none (checked (singleHit (candidate k clock size) matches) (k .next .0) (beyond k clock)))
+        (only-means (singleHit (candidate k clock size) matches) 0 (k .next .0) (beyond k clock) (λ s t. candidate-bounded s (and-left _ _ t)))
 
     pub single-accepts-candidate : {a : Step} → singleCheck k clock size matches ≡ Accepted a → candidate k clock size (a .0) ≡ true
     single-accepts-candidate {a} e =
@@ -140,7 +237,7 @@ module _ (k : Track) (clock : ℕ) (size : Size) where
         (and-left _ _ both, and-right (candidate k clock size s) _ both)
 
     -- the accepted step of a pair is the one after the smallest fresh step at which the pair matches
-    pub pair-means : Means (pairHit (candidate k clock size) first second) 1 (k .next .0) (pairCheck k clock size first second)
+    pub pair-means : MeansFirst (pairHit (candidate k clock size) first second) 1 (k .next .0) (pairCheck k clock size first second)
     unfolding pairCheck
     pair-means =
         check-means (pairHit (candidate k clock size) first second) 1 (k .next .0) (beyond k clock) (λ s t. candidate-bounded s (both-candidates s t .0))
@@ -151,40 +248,3 @@ module _ (k : Track) (clock : ℕ) (size : Size) where
         let s = hit .0 in
         let fresh = and-right (leb (k .next .0) s) _ (hit .1 .1 .passes) in
         rw (hit .1 .0) (both-candidates s fresh .1)
-
--- ---- how many passwords a check computes, exactly: the candidates up to the accepted step, or all of them; none for another count of digits
-
-pub record CountedExactly (test : ℕ → Bool) (end : ℕ) (right : Bool) (o : Outcome) (computed : ℕ) : Type 0 where
-  pub accepted : right ≡ true → (a : Step) → o ≡ Accepted a → computed ≡ howMany test (a .0 + 1)
-  pub otherwise : right ≡ true → ((a : Step) → o ≡ Accepted a → ⊥) → (n : ℕ) → end ≤ n → computed ≡ howMany test n
-  pub miscounted : right ≡ false → computed ≡ 0
-  pub most : computed ≤ howMany test end
-
-module _ (passwords : PasswordRule) (k : Track) (clock : ℕ) (key challenge : List ℕ) (asked : Asked) where
-  many-past : (n : ℕ) → beyond k clock ≤ n → howMany (candidate k clock (windowSize asked)) (beyond k clock) ≡ howMany (candidate k clock (windowSize asked)) n
-  many-past n l =
-      let w = end-below k clock (windowSize asked) in
-      rw (candidates-below k clock (windowSize asked) n, candidates-below k clock (windowSize asked) (beyond k clock)) (omega arith)
-
-  many-most : (n : ℕ) → howMany (candidate k clock (windowSize asked)) n ≤ howMany (candidate k clock (windowSize asked)) (beyond k clock)
-  many-most n =
-      let w = end-below k clock (windowSize asked) in
-      rw (candidates-below k clock (windowSize asked) n, candidates-below k clock (windowSize asked) (beyond k clock)) (omega arith)
-
-  all-swept : (o : Outcome) → ((a : Step) → o ≡ Accepted a → ⊥) → sweptTo (beyond k clock) o ≡ beyond k clock
-  all-swept (Accepted a) h = absurd (h a refl)
-  all-swept Used h = refl
-  all-swept Wrong h = refl
-
-  pub counted-exactly : CountedExactly (candidate k clock (windowSize asked)) (beyond k clock) (countsRight (k .scheme .digits) asked)
-      (outcomeOf passwords k clock key challenge asked) (computedOf passwords k clock key challenge asked)
-  unfolding computedOf
-  counted-exactly =
-      record {
-        accepted = λ c a e. rw (c, e);
-        otherwise = λ c h n l. rw (c, all-swept (outcomeOf passwords k clock key challenge asked) h) (many-past n l);
-        miscounted = λ c. rw c;
-        most = by-test (countsRight (k .scheme .digits) asked)
-            (λ c. rw c (many-most (sweptTo (beyond k clock) (outcomeOf passwords k clock key challenge asked))))
-            (λ c. rw c (omega arith));
-      }

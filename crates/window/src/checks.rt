@@ -12,7 +12,7 @@ ghost use mathlib.Core.Bool.{true};
 ghost use Rattle.window.specs.Window.{Sound};
 ghost use Rattle.window.specs.PasswordAt.{passwordAt, inRange};
 ghost use Rattle.window.specs.Asked.{outcomeOf};
-ghost use Rattle.window.specs.Sweep.{countsRight, computedOf};
+ghost use Rattle.window.specs.Sweep.{countsRight, computedOf, freshOf};
 
 // Whether each password has the token's count of digits.
 fn counts_right(digits: u8, asked: Asked) -> bool
@@ -25,17 +25,19 @@ fn counts_right(digits: u8, asked: Asked) -> bool
     }
 }
 
-// What is asked of a token, and how many passwords were computed: where a count of digits is not the token's, nothing is searched.
+// What is asked of a token, how many passwords were computed, and how many fresh steps matched: where a count of digits is not the token's, nothing is searched.
 pub fn check(track: Track, clock: Seconds, key: &[u8], challenge: &[u8], asked: Asked) -> Swept
     requires { ⌜ Sound track (clock .0) ⌝ }
     requires { ⌜ inRange (track .scheme) (now key) (now challenge) ≡ true ⌝ }
     ensures { λ r. ⌜ r .outcome ≡ outcomeOf passwordAt track (clock .0) (now (key .entry)) (now (challenge .entry)) asked ⌝ }
     ensures { λ r. ⌜ r .computed ≡ computedOf passwordAt track (clock .0) (now (key .entry)) (now (challenge .entry)) asked ⌝ }
+    ensures { λ r. ⌜ r .fresh ≡ freshOf passwordAt track (clock .0) (now (key .entry)) (now (challenge .entry)) asked ⌝ }
 {
     if !counts_right(track.scheme.digits, asked) {
         return Swept {
             outcome: Outcome::Wrong,
             computed: 0,
+            fresh: 0,
         };
     }
     match asked {

@@ -3,7 +3,7 @@ use otp::number::ten_to;
 use otp::typed::Password;
 ghost use mathlib.Core.Path.{_≡_};
 ghost use Prim.Native.Nat.{_%_, _≤_, _<_};
-ghost use Rattle.window.specs.Goal.{singleGoal, pairGoal, aheadBy, hits};
+ghost use Rattle.window.specs.Goal.{singleGoal, pairGoal, aheadBy, hits, moreSure};
 
 // The numbers that are searched for: that of the accepted step and, of a pair, that of the step before it.
 pub struct Goal {
@@ -69,4 +69,18 @@ pub(crate) fn hits(goal: Goal, before: u32, cut: u32) -> bool
         return false;
     }
     !goal.pair | (digits_of(before, goal.modulus) == goal.before)
+}
+
+// How many of the `left` steps past a reached one are computed for certain: a pair that this one does not begin may begin only at the next.
+pub(crate) fn more_sure(goal: Goal, reached: u32, left: u64) -> u64
+    requires { ⌜ 0 < goal .modulus ⌝ }
+    ensures { λ r. ⌜ r ≡ moreSure goal reached left ⌝ }
+    ensures { λ r. ⌜ 1 ≤ r ⌝ }
+    ensures { λ r. ⌜ r ≤ 2 ⌝ }
+{
+    if (left < 2) | (digits_of(reached, goal.modulus) == goal.before) {
+        1
+    } else {
+        2
+    }
 }

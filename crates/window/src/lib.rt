@@ -49,15 +49,17 @@ pub struct Track {
     pub offset: Offset,
 }
 
-// What a check finds: the accepted step, or a password that was used or is wrong.
+// What a check finds: the accepted step, or a password that several fresh steps have, or that was used or is wrong.
 pub enum Outcome {
     Accepted(Step),
+    Several,
     Used,
     Wrong,
 }
 
-// What a check finds, and how many passwords it computed.
+// What a check finds, how many passwords it computed, and how many fresh steps matched.
 pub struct Swept {
     pub outcome: Outcome,
     pub computed: u64,
+    pub fresh: u64,
 }

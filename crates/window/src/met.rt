@@ -2,12 +2,10 @@
 use crate::Outcome;
 use crate::Step;
 ghost use mathlib.Core.Path.{_≡_};
-ghost use mathlib.Core.Bool.{cond};
-ghost use lib.Dec.{eqb};
 ghost use Prim.Native.Nat.{_^_, _≤_, _<_};
 ghost use Rattle.window.specs.Sweep.{metBy, metOutcome};
 
-// Whether a used step hit, how many fresh ones did, and the place of the first of those.
+// Whether a used step hit, how many fresh ones did, and the place of the last of those, which counts where it is the only one.
 pub struct Met {
     pub used: bool,
     pub fresh: u64,
@@ -20,13 +18,6 @@ pub(crate) const UNMET: Met = Met {
     fresh: 0,
     at: 0,
 };
-
-// The first place of a fresh hit, where i is the last.
-fn first_place(met: Met, i: u64) -> u64
-    ensures { λ r. ⌜ r ≡ cond (eqb (met .fresh) 0) i (met .at) ⌝ }
-{
-    if met.fresh == 0 { i } else { met.at }
-}
 
 // With place i looked at.
 pub(crate) fn met_by(met: Met, hit: bool, late: bool, i: u64) -> Met
@@ -46,17 +37,20 @@ pub(crate) fn met_by(met: Met, hit: bool, late: bool, i: u64) -> Met
     Met {
         used: met.used,
         fresh: met.fresh + 1,
-        at: first_place(met, i),
+        at: i,
     }
 }
 
-// The place of the accepted step is `ahead` of the hit's.
+// Of several fresh hits none is accepted; the place of the accepted step is `ahead` of the hit's.
 pub(crate) fn met_outcome(first: u64, ahead: u64, met: Met) -> Outcome
     requires { ⌜ first ≤ 2 ^ 41 ⌝ }
     requires { ⌜ met .at ≤ 2 ^ 41 ⌝ }
     requires { ⌜ ahead ≤ 1 ⌝ }
     ensures { λ r. ⌜ r ≡ metOutcome first ahead met ⌝ }
 {
+    if 2 <= met.fresh {
+        return Outcome::Several;
+    }
     if 0 < met.fresh {
         return Outcome::Accepted(Step(first + met.at + ahead));
     }

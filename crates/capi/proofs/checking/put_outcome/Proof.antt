@@ -15,6 +15,9 @@ enum-told c = search needs
 enum-told-2 : tie.Need-enum-told-2
 enum-told-2 c = search needs
 
+enum-told-3 : tie.Need-enum-told-3
+enum-told-3 c = search needs
+
 same-length : tie.Need-same-length
 same-length c = search needs
 
@@ -27,6 +30,9 @@ returns-2 c = rw (c .enum-told .given .1)
 returns-3 : tie.Need-returns-3
 returns-3 c = rw (c .enum-told2 .given .1)
 
+returns-4 : tie.Need-returns-4
+returns-4 c = rw (c .enum-told3 .given .1)
+
 pub put-outcome-spec : {M : Type 1} → statement M
 put-outcome-spec =
     tie.close
@@ -35,7 +41,9 @@ put-outcome-spec =
     slice-write-step
     enum-told
     enum-told-2
+    enum-told-3
     same-length
     returns
     returns-2
-    returns-3)
+    returns-3
+    returns-4)

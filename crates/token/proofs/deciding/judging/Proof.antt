@@ -17,29 +17,38 @@ left-by-requires c κs = search needs
 enum-told : tie.Need-enum-told
 enum-told c = search needs
 
-failed-requires : tie.Need-failed-requires
-failed-requires c κs = search needs
-
 refusing-requires : tie.Need-refusing-requires
 refusing-requires c κs = search needs
 
 enum-told-2 : tie.Need-enum-told-2
 enum-told-2 c = search needs
 
-failed-requires-2 : tie.Need-failed-requires-2
-failed-requires-2 c κs = search needs
+failed-requires : tie.Need-failed-requires
+failed-requires c κs = search needs
 
 refusing-requires-2 : tie.Need-refusing-requires-2
 refusing-requires-2 c κs = search needs
+
+enum-told-3 : tie.Need-enum-told-3
+enum-told-3 c = search needs
+
+failed-requires-2 : tie.Need-failed-requires-2
+failed-requires-2 c κs = search needs
+
+refusing-requires-3 : tie.Need-refusing-requires-3
+refusing-requires-3 c κs = search needs
 
 returns : tie.Need-returns
 returns c = rw (c .before .before .before .before .outcome .given .1, c .before .before .offset-after .ensures, c .left-by .ensures, c .before .accepted .ensures)
 
 returns-2 : tie.Need-returns-2
-returns-2 c = rw (c .before .before .enum-told .given .1, ← c .before .failed .ensures) (c .refusing .ensures)
+returns-2 c = rw (c .before .enum-told .given .1) (c .refusing .ensures)
 
 returns-3 : tie.Need-returns-3
-returns-3 c = rw (c .before .before .enum-told2 .given .1, ← c .before .failed2 .ensures) (c .refusing2 .ensures)
+returns-3 c = rw (c .before .before .enum-told2 .given .1, ← c .before .failed .ensures) (c .refusing2 .ensures)
+
+returns-4 : tie.Need-returns-4
+returns-4 c = rw (c .before .before .enum-told3 .given .1, ← c .before .failed2 .ensures) (c .refusing3 .ensures)
 
 pub judging-spec : {M : Type 1} → statement M
 judging-spec =
@@ -50,11 +59,14 @@ judging-spec =
     accepted-requires
     left-by-requires
     enum-told
-    failed-requires
     refusing-requires
     enum-told-2
-    failed-requires-2
+    failed-requires
     refusing-requires-2
+    enum-told-3
+    failed-requires-2
+    refusing-requires-3
     returns
     returns-2
-    returns-3)
+    returns-3
+    returns-4)

@@ -12,7 +12,7 @@ counts-right-requires c κs = search needs
 returns : tie.Need-returns
 returns c =
     let args = c .before .before .before .before .args in
-    let r = check-miscounted (args .track) (args .clock .0) (args .key .now) (args .challenge .now) (args .asked) (c .before .counts-right .ensures) (c .if1 .taken) in (r .found, r .counted)
+    let r = check-miscounted (args .track) (args .clock .0) (args .key .now) (args .challenge .now) (args .asked) (c .before .counts-right .ensures) (c .if1 .taken) in (r .found, (r .counted, r .matched))
 
 enum-known-asked : tie.Need-enum-known-asked
 enum-known-asked c = search needs
@@ -88,7 +88,7 @@ returns-2 c =
     let counts-right = c .before .before .before .before .before .before .before .counts-right in
     let if1 = c .before .before .before .before .before .before .if1 in
     let asked = c .before .before .before .before .asked in
-    let r = check-one (args .track) (args .clock .0) (args .key .now) (args .challenge .now) (args .asked) (counts-right .ensures) (if1 .left) (asked .given .1) (c .before .single-goal .ensures) (c .sweep .ensures) in (r .found, r .counted)
+    let r = check-one (args .track) (args .clock .0) (args .key .now) (args .challenge .now) (args .asked) (counts-right .ensures) (if1 .left) (asked .given .1) (c .before .single-goal .ensures) (c .sweep .ensures) in (r .found, (r .counted, r .matched))
 
 returns-3 : tie.Need-returns-3
 returns-3 c =
@@ -96,7 +96,7 @@ returns-3 c =
     let counts-right = c .before .before .before .before .before .before .counts-right in
     let if1 = c .before .before .before .before .before .if1 in
     let asked2 = c .before .before .before .asked2 in
-    let r = check-challenged (args .track) (args .clock .0) (args .key .now) (args .challenge .now) (args .asked) (counts-right .ensures) (if1 .left) (asked2 .given .1) (c .before .single-goal2 .ensures) (c .sweep2 .ensures) in (r .found, r .counted)
+    let r = check-challenged (args .track) (args .clock .0) (args .key .now) (args .challenge .now) (args .asked) (counts-right .ensures) (if1 .left) (asked2 .given .1) (c .before .single-goal2 .ensures) (c .sweep2 .ensures) in (r .found, (r .counted, r .matched))
 
 returns-4 : tie.Need-returns-4
 returns-4 c =
@@ -104,7 +104,7 @@ returns-4 c =
     let counts-right = c .before .before .before .before .before .before .before .counts-right in
     let if1 = c .before .before .before .before .before .before .if1 in
     let asked3 = c .before .before .before .before .asked3 in
-    let r = check-two (args .track) (args .clock .0) (args .key .now) (args .challenge .now) (args .asked) (counts-right .ensures) (if1 .left) (asked3 .given .1) (c .before .pair-goal .ensures) (c .sweep3 .ensures) in (r .found, r .counted)
+    let r = check-two (args .track) (args .clock .0) (args .key .now) (args .challenge .now) (args .asked) (counts-right .ensures) (if1 .left) (asked3 .given .1) (c .before .pair-goal .ensures) (c .sweep3 .ensures) in (r .found, (r .counted, r .matched))
 
 pub check-spec : {M : Type 1} → statement M
 check-spec =

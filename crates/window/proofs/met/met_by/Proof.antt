@@ -1,5 +1,3 @@
-use Prim.Native.Nat.{ℕ, _+_}
-use mathlib.Core.Path.{ap}
 use borrow.Author.Tests.{not-true, not-false}
 use borrow.Author.Needs.{needs}
 use Rattle.window.proofs.met.met_by.Statement.{statement}
@@ -16,15 +14,10 @@ returns-2 c =
 add-t6 : tie.Need-add-t6
 add-t6 c = search needs
 
-first-place-requires : tie.Need-first-place-requires
-first-place-requires c κs = search needs
-
 returns-3 : tie.Need-returns-3
 returns-3 c =
-    let args = c .before .before .before .before .args in
-    let if1 = c .before .before .before .if1 in
-    let if2 = c .before .before .if2 in
-    rw (not-false (args .hit) (if1 .left), not-false (args .late) (if2 .left)) (ap (λ (n : ℕ). record { used = args .met .used; fresh = args .met .fresh + 1; at = n }) (c .first-place .ensures))
+    let args = c .before .before .before .args in
+    rw (not-false (args .hit) (c .before .before .if1 .left), not-false (args .late) (c .before .if2 .left))
 
 pub met-by-spec : {M : Type 1} → statement M
-met-by-spec = tie.close (tie.spec returns returns-2 add-t6 first-place-requires returns-3)
+met-by-spec = tie.close (tie.spec returns returns-2 add-t6 returns-3)
