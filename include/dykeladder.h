@@ -34,8 +34,8 @@ extern "C" {
 #endif
 
 /* The version of this header; as a number 0xMMmmpp, to be compared. */
-#define DL_VERSION        "0.3.0"
-#define DL_VERSION_NUMBER 0x000300
+#define DL_VERSION        "0.4.0"
+#define DL_VERSION_NUMBER 0x000400
 
 /* The version that the program was compiled with, DL_VERSION. */
 static inline const char *dl_version(void)
@@ -61,8 +61,9 @@ static inline const char *dl_version(void)
 
 /*
  * Refusals, in the order in which they are tested. Those down to
- * DL_DAMAGED_ROW leave every byte as it was, the next ones all but what a wait
- * that has run out sets (see "The desk" below).
+ * DL_DAMAGED_ROW leave every byte as it was, the next ones, down to
+ * DL_MANAGEMENT_NEXT_WANTED, all but what a wait that has run out sets (see
+ * "The desk" below).
  */
 #define DL_BAD_ARGUMENT        0x9005 /* a length or a value is out of range */
 #define DL_SERIAL_TAKEN        0x8411 /* dl_load: a row that is not empty has the serial */
@@ -77,9 +78,21 @@ static inline const char *dl_version(void)
 #define DL_TOKEN_EXPIRED       0x8408 /* a checked call at or after the expiry */
 
 /*
- * The last refusals are those of the check. At the desk each of them adds 1 to
- * the token's errors, which end at 255; if it was one of the two logins and the
- * errors are then at or above the limit, the token is locked by errors at now.
+ * In the place of a success: two or more unused steps of the window match the
+ * one password, which does not tell them apart, and none is accepted. The
+ * following password is asked for, as in GM/T 0021-2012, Table D.7, and there
+ * is no call of its own for it: the captain types the password that the token
+ * shows next in the same call, or both passwords go to dl_sync, which takes
+ * neither a challenge nor a suspended token.
+ */
+#define DL_NEXT_WANTED            0x8001 /* two or more unused steps match: dl_check and the two logins */
+#define DL_MANAGEMENT_NEXT_WANTED 0x8101 /* as DL_NEXT_WANTED, of dl_unlock, dl_resume */
+
+/*
+ * The last refusals are those of a password that is used or wrong. At the desk
+ * each of them adds 1 to the token's errors, which end at 255; if it was one of
+ * the two logins and the errors are then at or above the limit, the token is
+ * locked by errors at now.
  */
 #define DL_USED             0x8004 /* only steps before the first unused one match: dl_check and the two logins */
 #define DL_WRONG            0x8002 /* no step of the window matches: the same */
@@ -120,6 +133,8 @@ static inline const char *dl_code_text(uint16_t code)
     case DL_TOKEN_NOT_ACTIVATED: return "the token is not activated";
     case DL_TOKEN_VOID: return "the token is void";
     case DL_TOKEN_EXPIRED: return "the token has expired";
+    case DL_NEXT_WANTED: return "the next password is wanted";
+    case DL_MANAGEMENT_NEXT_WANTED: return "the next password is wanted for a management call";
     case DL_USED: return "used password";
     case DL_WRONG: return "wrong password";
     case DL_MANAGEMENT_USED: return "used password for a management call";
@@ -235,9 +250,9 @@ uint16_t dl_password(uint8_t algorithm, const uint8_t *key, size_t key_len,
  * DL_DONE the caller has to set `next` to the accepted step plus 1 and, for a
  * time token, `offset` to that step minus now / period plus 600.
  *
- * The search goes up the steps of the window once and ends at the accepted
- * one. It computes the password of each step that it comes to, once, and of no
- * other.
+ * The search goes up the steps of the window once, for one password to the
+ * last step, for two to the accepted one. It computes the password of each
+ * step that it comes to, once, and of no other.
  *
  *   kind       DL_TIME_TOKEN or DL_EVENT_TOKEN
  *   algorithm  DL_ALGORITHM_SM3 or DL_ALGORITHM_SM4
@@ -258,18 +273,22 @@ uint16_t dl_password(uint8_t algorithm, const uint8_t *key, size_t key_len,
  *              range, and wrong without a search
  *   following  the password of the step after it, likewise; following_len is
  *              0 where only one password is checked
- *   step       takes the accepted step in its first element: the smallest
- *              unused one that matches, or the one after it for two
- *              passwords; step_len is 1 or more
+ *   step       takes the accepted step in its first element: the only unused
+ *              one that matches or, for two passwords, the one after the
+ *              smallest unused one that matches; step_len is 1 or more
  *   computed   takes in its first element how many passwords were computed:
- *              those of the window's steps up to the accepted one, or of all
- *              of them if none is accepted; 0 if a password has not `digits`
- *              digits; computed_len is 1 or more
+ *              those of all the window's steps or, for two passwords that
+ *              are accepted, of those up to the accepted one; 0 if a password
+ *              has not `digits` digits; computed_len is 1 or more
+ *   fresh      takes in its first element how many unused steps match; for
+ *              two passwords 1 if they are accepted, else 0; fresh_len is 1
+ *              or more
  *
- * Returns DL_BAD_ARGUMENT if an argument is out of its range; DL_DONE if an
- * unused step of the window matches, DL_USED if only used ones do, DL_WRONG if
+ * Returns DL_BAD_ARGUMENT if an argument is out of its range; DL_NEXT_WANTED
+ * if two or more unused steps of the window match one password; DL_DONE if one
+ * does or, for two passwords, any; DL_USED if only used ones do, DL_WRONG if
  * none does. Only DL_DONE writes `step`; every code but DL_BAD_ARGUMENT writes
- * `computed`.
+ * `computed` and `fresh`.
  */
 uint16_t dl_check(uint8_t kind, uint8_t algorithm, uint8_t digits,
                   uint8_t period, uint64_t next, uint16_t offset,
@@ -279,7 +298,8 @@ uint16_t dl_check(uint8_t kind, uint8_t algorithm, uint8_t digits,
                   const uint8_t *presented, size_t presented_len,
                   const uint8_t *following, size_t following_len,
                   uint64_t *step, size_t step_len,
-                  uint64_t *computed, size_t computed_len);
+                  uint64_t *computed, size_t computed_len,
+                  uint64_t *fresh, size_t fresh_len);
 
 /*
  * The desk: tokens in a table, each known by its serial.
@@ -364,7 +384,7 @@ uint16_t dl_load(uint8_t *table, size_t table_len, uint64_t serial,
  * Returns DL_LOGGED_IN, with the step and the offset as values, or
  * DL_BAD_ARGUMENT, DL_NO_TOKEN, DL_DAMAGED_ROW, DL_TOKEN_LOCKED,
  * DL_TOKEN_SUSPENDED, DL_TOKEN_NOT_ACTIVATED, DL_TOKEN_VOID,
- * DL_TOKEN_EXPIRED, DL_USED or DL_WRONG.
+ * DL_TOKEN_EXPIRED, DL_NEXT_WANTED, DL_USED or DL_WRONG.
  */
 uint16_t dl_login(uint8_t *table, size_t table_len, uint64_t serial,
                   uint64_t now,
@@ -416,7 +436,8 @@ uint16_t dl_lock(uint8_t *table, size_t table_len, uint64_t serial,
  * Returns DL_UNLOCKED, with the step and the offset as values, or
  * DL_BAD_ARGUMENT, DL_NO_TOKEN, DL_DAMAGED_ROW, DL_TOKEN_READY,
  * DL_TOKEN_SUSPENDED, DL_TOKEN_NOT_ACTIVATED, DL_TOKEN_VOID,
- * DL_TOKEN_EXPIRED, DL_MANAGEMENT_USED or DL_MANAGEMENT_WRONG.
+ * DL_TOKEN_EXPIRED, DL_MANAGEMENT_NEXT_WANTED, DL_MANAGEMENT_USED or
+ * DL_MANAGEMENT_WRONG.
  */
 uint16_t dl_unlock(uint8_t *table, size_t table_len, uint64_t serial,
                    uint64_t now,
@@ -438,7 +459,7 @@ uint16_t dl_suspend(uint8_t *table, size_t table_len, uint64_t serial,
  * Returns DL_RESUMED, with the step and the offset as values, or
  * DL_BAD_ARGUMENT, DL_NO_TOKEN, DL_DAMAGED_ROW, DL_TOKEN_READY,
  * DL_TOKEN_LOCKED, DL_TOKEN_NOT_ACTIVATED, DL_TOKEN_VOID, DL_TOKEN_EXPIRED,
- * DL_MANAGEMENT_USED or DL_MANAGEMENT_WRONG.
+ * DL_MANAGEMENT_NEXT_WANTED, DL_MANAGEMENT_USED or DL_MANAGEMENT_WRONG.
  */
 uint16_t dl_resume(uint8_t *table, size_t table_len, uint64_t serial,
                    uint64_t now,

@@ -36,23 +36,27 @@ pub struct Track<'a> {
 pub struct Checked {
     /// The accepted step, or why there is none.
     pub answer: Answer<Step>,
-    /// How many passwords were computed: those of the window's steps up to the accepted one, or of all of them if none is accepted. 0
-    /// if a password has another number of digits than the token's, and if the check is refused as
+    /// How many passwords were computed: those of all the window's steps or, for two passwords that are accepted, of those up to the
+    /// accepted one. 0 if a password has another number of digits than the token's, and if the check is refused as
     /// [`BadArgument`](Refusal::BadArgument).
     pub computed: u64,
+    /// How many unused steps have the password; for two passwords 1 if they are accepted, else 0. 0 also where `computed` is.
+    pub fresh: u64,
 }
 
 impl Track<'_> {
-    /// The accepted step of a password or, with `following`, the second step of two passwords in a row; and how many passwords were
-    /// computed. The search goes up the steps of the window once, and ends at the accepted one.
+    /// The accepted step of a password or, with `following`, the second step of two passwords in a row; how many passwords were
+    /// computed, and how many unused steps have the password. The search goes up the steps of the window once, for one password to
+    /// the last step, for two to the accepted one.
     ///
     /// It changes nothing: the caller sets `next` to that step plus 1 and, for a time token, `offset` to that step minus the clock's.
     /// A challenge has 4 to 32 printable ASCII bytes and no space, and two passwords have none. Empty texts are none, but a password
     /// is needed.
     ///
     /// It is refused as [`BadArgument`](Refusal::BadArgument) if a number of the token, the clock or the challenge is out of range or
-    /// a password is not 6 to 10 ASCII digits, as [`Used`](Refusal::Used) if only used steps have the password, and as
-    /// [`Wrong`](Refusal::Wrong) if no step of the window has it, which also goes for another number of digits than the token's.
+    /// a password is not 6 to 10 ASCII digits, as [`NextWanted`](Refusal::NextWanted) if two or more unused steps have the one
+    /// password, as [`Used`](Refusal::Used) if only used steps have it, and as [`Wrong`](Refusal::Wrong) if no step of the window has
+    /// it, which also goes for another number of digits than the token's.
     ///
     /// ```
     /// # use dykeladder::{password, Algorithm, Factor, Kind, Offset, Refusal, Seconds, Step, Track, Window};
@@ -68,12 +72,13 @@ impl Track<'_> {
     /// let checked = track.check(Seconds(0), Window::Small, None, shown, None);
     /// let step = checked.answer?;
     /// assert_eq!(step, Step(6));
-    /// assert_eq!(checked.computed, 3); // the window begins with the last used step: 4, 5, 6
+    /// assert_eq!(checked.computed, 11); // the window begins with the last used step: 4 to 14
+    /// assert_eq!(checked.fresh, 1);
     ///
     /// track.next = Step(step.0 + 1);
     /// let again = track.check(Seconds(0), Window::Small, None, shown, None);
     /// assert_eq!(again.answer, Err(Refusal::Used));
-    /// assert_eq!(again.computed, 11); // 6 to 16, the whole window
+    /// assert_eq!(again.fresh, 0);
     /// # Ok::<(), Refusal>(())
     /// ```
     pub fn check(
@@ -87,8 +92,9 @@ impl Track<'_> {
         // one that has no place in 16 bits is out of range, as the largest number there is
         let offset = u16::try_from(i32::from(self.offset.0) + 600).unwrap_or(u16::MAX);
         let texts = [challenge.unwrap_or_default(), password.as_ref(), following.unwrap_or_default()];
-        let (mut step, mut computed) = ([0], [0]);
-        let code = ffi::check(self, offset, now.0, window as u8, texts, &mut step, &mut computed);
-        Checked { answer: Refusal::unless(code, DONE).map(|()| Step(step[0])), computed: computed[0] }
+        let mut found = ffi::Found::default();
+        let code = ffi::check(self, offset, now.0, window as u8, texts, &mut found);
+        let answer = Refusal::unless(code, DONE).map(|()| Step(found.step));
+        Checked { answer, computed: found.computed, fresh: found.fresh }
     }
 }

@@ -68,7 +68,8 @@ pub enum SyncWindow {
 ///
 /// Each call but [`load`](Desk::load) names a token by its serial, at a clock below 2^40 that may go back. It is refused for a serial
 /// that no row has, a row that is not well formed, and a state that the call does not serve. A checked call, one with a password, is
-/// refused for a token that has expired, and for a password that is used or wrong. A password is any text of 6 to 10 digits.
+/// refused for a token that has expired, for one password that two or more unused steps have, and for a password that is used or wrong.
+/// A password is any text of 6 to 10 digits.
 ///
 /// A token locked by errors becomes ready when its wait has run out, at the next call that names it.
 ///

@@ -39,7 +39,8 @@ extern "C" {
                 presented: *const u8, presented_len: usize,
                 following: *const u8, following_len: usize,
                 step: *mut u64, step_len: usize,
-                computed: *mut u64, computed_len: usize) -> u16;
+                computed: *mut u64, computed_len: usize,
+                fresh: *mut u64, fresh_len: usize) -> u16;
 
     fn dl_load(table: *mut u8, table_len: usize, serial: u64,
                kind: u8, algorithm: u8, digits: u8,
@@ -124,19 +125,25 @@ pub fn password(
     }
 }
 
+/// What a check writes: the accepted step, how many passwords were computed, and how many unused steps match.
+#[derive(Default)]
+pub struct Found {
+    pub step: u64,
+    pub computed: u64,
+    pub fresh: u64,
+}
+
 #[rustfmt::skip]
-pub fn check(
-    track: &Track<'_>, offset: u16, now: u64, size: u8, texts: [&[u8]; 3], step: &mut [u64], computed: &mut [u64],
-) -> u16 {
+pub fn check(track: &Track<'_>, offset: u16, now: u64, size: u8, texts: [&[u8]; 3], found: &mut Found) -> u16 {
     let (kind, period) = track.kind.numbers();
     let [challenge, presented, following] = texts.map(<[u8]>::as_ptr);
     let [challenge_len, presented_len, following_len] = texts.map(<[u8]>::len);
-    // SAFETY: all buffers are slices, and only the `&mut` ones are written.
+    // SAFETY: the texts and the key are slices, and only the three numbers, each in the place of one element, are written.
     unsafe {
         dl_check(
             kind, track.algorithm as u8, track.digits, period, track.next.0, offset, now, size,
             track.key.as_ptr(), track.key.len(), challenge, challenge_len, presented, presented_len, following, following_len,
-            step.as_mut_ptr(), step.len(), computed.as_mut_ptr(), computed.len(),
+            &mut found.step, 1, &mut found.computed, 1, &mut found.fresh, 1,
         )
     }
 }

@@ -36,7 +36,8 @@ impl Error for BadArgument {}
 /// A refusal of the desk, in the order in which they are tested. Later versions may have more.
 ///
 /// Those up to [`DamagedRow`](Refusal::DamagedRow) leave the table as it was, those up to
-/// [`TokenExpired`](Refusal::TokenExpired) but for a wait that has run out. The others add 1 to the token's errors, which end at 255.
+/// [`ManagementNextWanted`](Refusal::ManagementNextWanted) but for a wait that has run out. The others add 1 to the token's errors,
+/// which end at 255.
 ///
 /// ```
 /// # use dykeladder::Refusal;
@@ -69,6 +70,21 @@ pub enum Refusal {
     TokenVoid = 0x8407,
     /// A checked call at or after the token's expiry.
     TokenExpired = 0x8408,
+    /// Login, challenge login: two or more unused steps have the password, which does not tell them apart, and none is accepted. The
+    /// following password is asked for (GM/T 0021-2012, Table D.7): the captain types the one that the token shows next, or both go
+    /// to [`Desk::sync`](crate::Desk::sync), which takes neither a challenge nor a suspended token.
+    ///
+    /// ```
+    /// # use dykeladder::{Algorithm, Kind, Offset, Refusal, Seconds, Step, Track, Window};
+    /// let key = 3403_u128.to_be_bytes();
+    /// let track = Track { kind: Kind::Event, algorithm: Algorithm::Sm3, digits: 6, key: &key, next: Step(0), offset: Offset(0) };
+    /// let check = |shown, following| track.check(Seconds(0), Window::Medium, None, shown, following).answer;
+    /// assert_eq!(check("547160", None), Err(Refusal::NextWanted)); // steps 3 and 6 have it
+    /// assert_eq!(check("547160", Some(b"629325")), Ok(Step(7)));
+    /// ```
+    NextWanted = 0x8001,
+    /// As [`NextWanted`](Refusal::NextWanted), of unlock and resume.
+    ManagementNextWanted = 0x8101,
     /// Login, challenge login: only steps before the first unused one have the password.
     Used = 0x8004,
     /// Login, challenge login: no step of the window has the password.
@@ -95,6 +111,8 @@ impl Refusal {
         Refusal::TokenNotActivated,
         Refusal::TokenVoid,
         Refusal::TokenExpired,
+        Refusal::NextWanted,
+        Refusal::ManagementNextWanted,
         Refusal::Used,
         Refusal::Wrong,
         Refusal::ManagementUsed,
@@ -137,6 +155,8 @@ impl Refusal {
             Refusal::TokenNotActivated => "the token is not activated",
             Refusal::TokenVoid => "the token is void",
             Refusal::TokenExpired => "the token has expired",
+            Refusal::NextWanted => "the next password is wanted",
+            Refusal::ManagementNextWanted => "the next password is wanted for a management call",
             Refusal::Used => "used password",
             Refusal::Wrong => "wrong password",
             Refusal::ManagementUsed => "used password for a management call",

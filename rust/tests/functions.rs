@@ -77,11 +77,11 @@ fn shown(step: u64) -> Password {
 }
 
 fn accepted(step: u64, computed: u64) -> Checked {
-    Checked { answer: Ok(Step(step)), computed }
+    Checked { answer: Ok(Step(step)), computed, fresh: 1 }
 }
 
 fn refused(refusal: Refusal, computed: u64) -> Checked {
-    Checked { answer: Err(refusal), computed }
+    Checked { answer: Err(refusal), computed, fresh: 0 }
 }
 
 #[test]
@@ -89,7 +89,7 @@ fn check_of_a_time_token() {
     let check = |window, step| AHEAD.check(CLOCK, window, None, shown(step), None);
     assert_eq!(check(Window::Small, 34), refused(Refusal::Wrong, 5));
     assert_eq!(check(Window::Small, 35), refused(Refusal::Used, 5));
-    assert_eq!(check(Window::Small, 36), accepted(36, 2));
+    assert_eq!(check(Window::Small, 36), accepted(36, 5));
     assert_eq!(check(Window::Small, 39), accepted(39, 5));
     assert_eq!(check(Window::Small, 40), refused(Refusal::Wrong, 5));
     assert_eq!(check(Window::Medium, 42), accepted(42, 11));
@@ -132,6 +132,7 @@ fn check_all(tracks: &[Track<'_>], refusal: Refusal) {
     for (i, track) in tracks.iter().enumerate() {
         let checked = track.check(Seconds(0), Window::Small, None, "123456", None);
         assert_eq!(checked.answer, Err(refusal), "track {i}");
+        assert_eq!(checked.fresh, 0, "track {i}");
         if refusal == Refusal::BadArgument {
             assert_eq!(checked.computed, 0, "track {i}");
         }

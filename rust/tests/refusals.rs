@@ -1,5 +1,5 @@
 //! Every refusal of the desk, each from a call that is answered so.
-use dykeladder::{Answer, Call, Desk, Refusal, Seconds, Serial, SyncWindow, ROW_BYTES};
+use dykeladder::{Algorithm, Answer, Call, Desk, Kind, Particulars, Refusal, Seconds, Serial, SyncWindow, ROW_BYTES};
 
 mod common;
 use common::{shown, token};
@@ -56,6 +56,24 @@ fn of_states() -> [Answer<()>; 6] {
     ]
 }
 
+// A token that shows 547160 at the counts 3 and 6. Its counts up to 1 are used.
+fn with_equal_counts(run: impl FnOnce(&mut Desk<'_>) -> Answer<()>) -> Answer<()> {
+    let key = 3403_u128.to_be_bytes();
+    let equal = Particulars { kind: Kind::Event, algorithm: Algorithm::Sm3, key: &key, ..token(SERIAL) };
+    answer_on_one_row(|desk| {
+        desk.load(&equal)?;
+        desk.activate(SERIAL, NOW, "768081", "286562")?;
+        run(desk)
+    })
+}
+
+fn of_equal_steps() -> [Answer<()>; 2] {
+    [
+        with_equal_counts(|desk| desk.login(SERIAL, NOW, "547160").map(drop)),
+        with_equal_counts(|desk| desk.lock(SERIAL, NOW).and_then(|()| desk.unlock(SERIAL, NOW, "547160").map(drop))),
+    ]
+}
+
 fn of_passwords() -> [Answer<()>; 5] {
     [
         after_activation(|desk| login(desk, NOW, 36)),
@@ -69,7 +87,7 @@ fn of_passwords() -> [Answer<()>; 5] {
 // In the order of Refusal::ALL.
 #[test]
 fn each_comes_up() {
-    let answers: Vec<_> = of_rows().into_iter().chain(of_states()).chain(of_passwords()).collect();
+    let answers: Vec<_> = of_rows().into_iter().chain(of_states()).chain(of_equal_steps()).chain(of_passwords()).collect();
     assert_eq!(answers, Refusal::ALL.iter().copied().map(Err).collect::<Vec<_>>());
 }
 

@@ -6,7 +6,8 @@ static const uint16_t codes[] = {
     DL_DONE, DL_LOGGED_IN, DL_CHALLENGE_MET, DL_ACTIVATED, DL_LOCKED, DL_UNLOCKED, DL_SUSPENDED, DL_RESUMED,
     DL_SYNCHRONIZED, DL_VOIDED, DL_QUERIED, DL_LOADED, DL_BAD_ARGUMENT, DL_SERIAL_TAKEN, DL_TABLE_FULL, DL_NO_TOKEN,
     DL_DAMAGED_ROW, DL_TOKEN_READY, DL_TOKEN_LOCKED, DL_TOKEN_SUSPENDED, DL_TOKEN_NOT_ACTIVATED, DL_TOKEN_VOID,
-    DL_TOKEN_EXPIRED, DL_USED, DL_WRONG, DL_MANAGEMENT_USED, DL_MANAGEMENT_WRONG, DL_SYNC_WRONG};
+    DL_TOKEN_EXPIRED, DL_NEXT_WANTED, DL_MANAGEMENT_NEXT_WANTED, DL_USED, DL_WRONG, DL_MANAGEMENT_USED, DL_MANAGEMENT_WRONG,
+    DL_SYNC_WRONG};
 
 enum { CODES = sizeof codes / sizeof *codes, SUCCESSES = 12, ALL_NUMBERS = 0x10000 };
 
@@ -78,14 +79,16 @@ static void nothing_to_make_a_password_of(void)
 static void nothing_to_check(void)
 {
     const uint8_t event = DL_EVENT_TOKEN, sm4 = DL_ALGORITHM_SM4;
-    uint64_t step = 77, count = 88;
-    REFUSED(dl_check(event, sm4, 6, 0, 0, 600, 0, DL_SMALL, NULL, 0, NULL, 0, digits, 6, NULL, 0, &step, 1, &count, 1));
-    REFUSED(dl_check(event, sm4, 6, 0, 0, 600, 0, DL_SMALL, sixteen, 16, NULL, 0, digits, 6, NULL, 0, NULL, 0, &count, 1));
-    REFUSED(dl_check(event, sm4, 6, 0, 0, 600, 0, DL_SMALL, sixteen, 16, NULL, 0, digits, 6, NULL, 0, &step, 1, NULL, 0));
-    REFUSED(dl_check(event, sm4, 6, 0, 0, 600, 0, DL_SMALL, sixteen, 16, NULL, 0, NULL, 0, NULL, 0, &step, 1, &count, 1));
-    check(step == 77 && count == 88, "a refused check wrote");
-    ANSWERS(DL_WRONG, dl_check(event, sm4, 6, 0, 0, 600, 0, DL_SMALL, sixteen, 16, NULL, 0, digits, 6, NULL, 0, &step, 1, &count, 1));
-    check(step == 77 && count == 10, "a wrong password, its step or count");
+    uint64_t step = 77, count = 88, fresh = 99;
+    REFUSED(dl_check(event, sm4, 6, 0, 0, 600, 0, DL_SMALL, NULL, 0, NULL, 0, digits, 6, NULL, 0, &step, 1, &count, 1, &fresh, 1));
+    REFUSED(dl_check(event, sm4, 6, 0, 0, 600, 0, DL_SMALL, sixteen, 16, NULL, 0, NULL, 0, NULL, 0, &step, 1, &count, 1, &fresh, 1));
+    REFUSED(dl_check(event, sm4, 6, 0, 0, 600, 0, DL_SMALL, sixteen, 16, NULL, 0, digits, 6, NULL, 0, NULL, 0, &count, 1, &fresh, 1));
+    REFUSED(dl_check(event, sm4, 6, 0, 0, 600, 0, DL_SMALL, sixteen, 16, NULL, 0, digits, 6, NULL, 0, &step, 1, NULL, 0, &fresh, 1));
+    REFUSED(dl_check(event, sm4, 6, 0, 0, 600, 0, DL_SMALL, sixteen, 16, NULL, 0, digits, 6, NULL, 0, &step, 1, &count, 1, NULL, 0));
+    check(step == 77 && count == 88 && fresh == 99, "a refused check wrote");
+    ANSWERS(DL_WRONG, dl_check(event, sm4, 6, 0, 0, 600, 0, DL_SMALL, sixteen, 16, NULL, 0, digits, 6, NULL, 0, &step, 1, &count, 1,
+                               &fresh, 1));
+    check(step == 77 && count == 10 && fresh == 0, "a wrong password, its step or counts");
 }
 
 static void no_table(void)
