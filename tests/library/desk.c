@@ -1,8 +1,10 @@
 // The desk over tables of tokens, through the C interface, compared with the one of desk_reference.h: lists of calls, damaged
 // tables, bad arguments. Each test prints how often each answer came up, and fails if one that it is made for never did.
-//   desk         the full run: 20,000 lists on 1 to 8 zero rows, and others
+//   desk         the full run: 20,000 lists on 1 to 8 zero rows, 100,000 on tokens with one password at two steps, and others
 //   desk COUNT   the short run, for valgrind: fewer lists, every table in exactly its length, no long buffers
 #define _DEFAULT_SOURCE
+#include "collision_lists.h"
+#include "desk_collisions.h"
 #include "desk_corners.h"
 #include "desk_lists.h"
 #include "desk_story.h"
@@ -110,6 +112,69 @@ static void lists_on_damaged_rows(void)
         }
     }
     came_up(REACHABLE);
+}
+
+// ---- lists of calls on tokens with one password at two steps
+
+enum { FEW_CALLS = 4, MORE_THAN_FEW = 7, ASKED_AT_LEAST = 2000 };
+
+// How often the following password was asked for, at the two logins and at other calls, by kind and algorithm.
+static long asked[2][2][2], asked_by_challenge;
+
+static void count_asked(const struct desk_call *call, const struct collision *collision, uint16_t code)
+{
+    if (code != 0x8001 && code != 0x8101)
+        return;
+    asked[code == 0x8101][collision->kind][collision->algorithm - DL_ALGORITHM_SM3]++;
+    asked_by_challenge += call->name == CALL_CHALLENGE_LOGIN;
+}
+
+// Watched only if the list began on zero rows.
+static void collision_calls(struct collision_list *list, int is_watched)
+{
+    struct desk_call call;
+    for (size_t n = FEW_CALLS + random_below(MORE_THAN_FEW); n > 0; n--) {
+        next_collision_call(list, &call);
+        watch_before(list->base.rows);
+        uint16_t code = compare(&call);
+        count_asked(&call, list->collision, code);
+        if (is_watched)
+            watch_after(&call, code, list->base.rows);
+    }
+}
+
+static void collision_lists_on_zero_rows(void)
+{
+    struct collision_list list;
+    for (size_t i = 0; i < (full_run ? 10 * cases : cases); i++) {
+        begin_collision_list(&list, 1 + random_below(2));
+        begin_watch();
+        collision_calls(&list, 1);
+    }
+    came_up(LOADED | TAKEN | ON_A_TOKEN | NEXT_WANTED);
+}
+
+static void collision_lists_in_any_state(void)
+{
+    struct collision_list list;
+    for (size_t i = 0; i < (full_run ? 10 * cases : cases); i++) {
+        begin_collision_list(&list, 1 + random_below(2));
+        lay_collision_rows(&list);
+        collision_calls(&list, 0);
+    }
+    came_up(TAKEN | ON_A_TOKEN | NEXT_WANTED);
+}
+
+static void asked_often(void)
+{
+    for (size_t i = 0; i < 2; i++) {
+        long times = asked[i][0][0] + asked[i][0][1] + asked[i][1][0] + asked[i][1][1];
+        printf("     %s: time %ld and %ld, event %ld and %ld\n", i == 0 ? "8001" : "8101", asked[i][0][0], asked[i][0][1], asked[i][1][0],
+               asked[i][1][1]);
+        check(times >= ASKED_AT_LEAST, "%ld times in all", times);
+        check(asked[i][0][0] && asked[i][0][1] && asked[i][1][0] && asked[i][1][1], "a kind or an algorithm was never asked");
+    }
+    check(asked_by_challenge > 0, "no challenge login was asked for the next");
 }
 
 // ---- arguments
@@ -224,6 +289,12 @@ static const struct test tests[] = {
     {"lists of calls on 1 to 8 zero rows", lists_on_few_rows, 0},
     {"lists of calls on 256 zero rows", lists_on_many_rows, 0},
     {"lists of calls on tables that are damaged meanwhile", lists_on_damaged_rows, 0},
+    {"request 5's table", told_rows, 0},
+    {"8001 and 8101 among the other refusals", collision_places, 0},
+    {"each token found to have one password at two steps or three", found_tokens, 0},
+    {"lists of calls on such tokens, on zero rows", collision_lists_on_zero_rows, 0},
+    {"lists of calls on such tokens, in any state", collision_lists_in_any_state, 0},
+    {"8001 and 8101 came up often in these lists, by each kind and algorithm", asked_often, 1},
     {"arguments at the ends of their ranges", just_inside, 0},
     {"each argument out of its range", just_outside, 0},
     {"lengths past 32 bits", long_buffers, 1},

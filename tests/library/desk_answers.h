@@ -1,4 +1,4 @@
-// The codes of document 01 that the desk answers with, and how often they came up.
+// The codes of documents 01 and 02 that the desk answers with, and how often they came up.
 #ifndef DESK_ANSWERS_H
 #define DESK_ANSWERS_H
 
@@ -19,9 +19,10 @@ enum {
     EXPIRED = 1 << 10,
     USED = 1 << 11,
     WRONG = 1 << 12,
-    TOO_FAR = 1 << 13,
+    NEXT_WANTED = 1 << 13, // only tokens with two steps to one password have it
+    TOO_FAR = 1 << 14,
     ON_A_TOKEN = LOGGED_IN | CHECKED | PLAIN | OTHER_STATE | EXPIRED | USED | WRONG, // whose row is well formed
-    REACHABLE = TOO_FAR - 1,
+    REACHABLE = NEXT_WANTED - 1, // by tokens of any key
 };
 
 static struct answer answers[] = {
@@ -34,7 +35,8 @@ static struct answer answers[] = {
     {0x8403, DAMAGED, "8403 not well formed", 0, 0}, {0x8409, OTHER_STATE, "8409 ready", 0, 0},
     {0x8404, OTHER_STATE, "8404 locked", 0, 0}, {0x8405, OTHER_STATE, "8405 suspended", 0, 0},
     {0x8406, OTHER_STATE, "8406 not activated", 0, 0}, {0x8407, OTHER_STATE, "8407 void", 0, 0},
-    {0x8408, EXPIRED, "8408 expired", 0, 0}, {0x8106, TOO_FAR, "8106 too far", 0, 0}, {0x8004, USED, "8004 used", 0, 0},
+    {0x8408, EXPIRED, "8408 expired", 0, 0}, {0x8106, TOO_FAR, "8106 too far", 0, 0},
+    {0x8001, NEXT_WANTED, "8001 next wanted", 0, 0}, {0x8101, NEXT_WANTED, "8101 next wanted", 0, 0}, {0x8004, USED, "8004 used", 0, 0},
     {0x8104, USED, "8104 used", 0, 0}, {0x8002, WRONG, "8002 wrong", 0, 0}, {0x8102, WRONG, "8102 wrong", 0, 0},
     {0x8105, WRONG, "8105 wrong", 0, 0}};
 

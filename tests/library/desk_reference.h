@@ -1,5 +1,5 @@
-// The desk of document 01, Part 5 and "What a turned-down call says", over a table of bytes, written from the document alone. Its row
-// is that of row_reference.h and its check that of window_reference.h.
+// The desk of document 01, Part 5 and "What a turned-down call says", with 8001 and 8101 of document 02, request 5, over a table of bytes,
+// written from the documents alone. Its row is that of row_reference.h and its check that of window_reference.h.
 #ifndef DESK_REFERENCE_H
 #define DESK_REFERENCE_H
 
@@ -93,6 +93,11 @@ static const uint16_t desk_state_codes[] = {
 static inline int desk_is_login(enum desk_name name)
 {
     return name == CALL_LOGIN || name == CALL_CHALLENGE_LOGIN;
+}
+
+static inline uint16_t desk_next_code(enum desk_name name)
+{
+    return desk_is_login(name) ? DL_NEXT_WANTED : DL_MANAGEMENT_NEXT_WANTED;
 }
 
 static inline uint16_t desk_used_code(enum desk_name name)
@@ -194,7 +199,7 @@ static inline struct window_call desk_token(const uint8_t *row, const struct des
         .kind = (uint8_t)row_get(row, ROW_KIND), .algorithm = (uint8_t)row_get(row, ROW_ALGORITHM),
         .digits = (uint8_t)row_get(row, ROW_DIGITS), .period = (uint8_t)row_get(row, ROW_PERIOD),
         .size = desk_window_size(call), .offset = (uint16_t)row_get(row, ROW_OFFSET), .next = row_get(row, ROW_NEXT),
-        .now = call->now, .key_len = row_get(row, ROW_KEY_LEN), .step_len = 1, .computed_len = 1};
+        .now = call->now, .key_len = row_get(row, ROW_KEY_LEN), .step_len = 1, .computed_len = 1, .fresh_len = 1};
     memcpy(token.key, row_key(row), OTP_MOST_KEY);
     if (call->name == CALL_CHALLENGE_LOGIN) {
         token.challenge_len = call->challenge.len;
@@ -239,19 +244,20 @@ static inline int desk_is_too_far(const uint8_t *row, uint64_t now, uint64_t ste
     return distance > WINDOW_FARTHEST;
 }
 
-// The refusal, or DL_DONE.
-static inline uint16_t desk_check(uint8_t *row, const struct desk_call *call)
+static inline struct window_answer desk_search(const uint8_t *row, const struct desk_call *call)
 {
-    const struct desk_rule *rule = &desk_rules[call->name];
-    if (rule->check == NO_CHECK)
-        return DL_DONE;
-    if (call->now >= row_get(row, ROW_EXPIRY))
-        return DL_TOKEN_EXPIRED;
     struct window_call token = desk_token(row, call);
     token.presented = call->password;
-    if (rule->check == PAIR)
+    if (desk_rules[call->name].check == PAIR)
         token.following = call->following;
-    struct window_answer found = window_check(&token);
+    return window_check(&token);
+}
+
+// What becomes of the row by what the search found: the refusal, or DL_DONE. Where the following password is asked for, the row stays.
+static inline uint16_t desk_judge(uint8_t *row, const struct desk_call *call, struct window_answer found)
+{
+    if (found.code == DL_NEXT_WANTED)
+        return desk_next_code(call->name);
     if (found.code == DL_DONE && desk_is_too_far(row, call->now, found.step)) {
         desk_too_far++;
         return 0x8106;
@@ -262,6 +268,16 @@ static inline uint16_t desk_check(uint8_t *row, const struct desk_call *call)
     }
     desk_add_error(row, call);
     return found.code == DL_USED ? desk_used_code(call->name) : desk_wrong_code(call->name);
+}
+
+// The refusal, or DL_DONE.
+static inline uint16_t desk_check(uint8_t *row, const struct desk_call *call)
+{
+    if (desk_rules[call->name].check == NO_CHECK)
+        return DL_DONE;
+    if (call->now >= row_get(row, ROW_EXPIRY))
+        return DL_TOKEN_EXPIRED;
+    return desk_judge(row, call, desk_search(row, call));
 }
 
 // ---- a call on its row

@@ -14,6 +14,7 @@ struct change {
 #define KEPT {{ROW_NOTHING, 0}}
 #define OFFSET(d) {ROW_OFFSET, 600 + (d)}
 #define ACCEPTED(step, now) {ROW_ERRORS, 0}, {ROW_NEXT, (step) + 1}, {ROW_LAST_USE, now}
+#define OPENED {ROW_STATE, 2}, {ROW_ERRORS, 0}, {ROW_LOCKED_AT, 0}
 
 static inline void apply(uint8_t *row, const struct change changes[MOST_CHANGES])
 {

@@ -164,21 +164,27 @@ static void every_combination(void)
 
 // ---- two steps in a row with one password, both fresh or the first one used
 
-static void make_shared_password(struct row_case *made, const struct twins *pair, twins_test *fits)
+// A call in its state, and what it answers.
+static const struct sharing {
+    enum desk_name name;
+    uint8_t state;
+    uint16_t both, second; // fresh
+} sharings[] = {
+    {CALL_LOGIN, DL_STATE_READY, 0x8001, 0x0001},
+    {CALL_UNLOCK, DL_STATE_LOCKED_BY_HAND, 0x8101, 0x0103},
+    {CALL_RESUME, DL_STATE_SUSPENDED, 0x8101, 0x0105}};
+
+enum { SHARINGS = sizeof sharings / sizeof *sharings };
+
+static void make_shared_password(struct row_case *made, const struct sharing *sharing, const struct twins *pair, twins_test *fits)
 {
     struct window_call token;
     place_twins(&token, pair, fits);
-    made->call = (struct desk_call){.name = CALL_LOGIN, .now = token.now, .table_len = DL_ROW_BYTES, .values_len = DL_QUERY_VALUES};
+    made->call = (struct desk_call){.name = sharing->name, .now = token.now, .table_len = DL_ROW_BYTES, .values_len = DL_QUERY_VALUES};
     put_token(made->row, &token);
-    put_standing(made->row, token.now, DL_STATE_READY);
+    put_standing(made->row, token.now, sharing->state);
     row_put(made->row, ROW_EXPIRY, CLOCK_END);
     window_password(&token, pair->first, &made->call.password);
-}
-
-static void expect_step(const struct row_case *made, int64_t step)
-{
-    uint16_t code = compare_case(made);
-    require(code == 0x0001 && lent_signed_words[0] == step, "not the smallest fresh step of two with one password");
 }
 
 static void shared_passwords(void)
@@ -186,14 +192,15 @@ static void shared_passwords(void)
     struct twins pair;
     struct row_case made;
     for (size_t i = 0; i < cases; i++) {
+        const struct sharing *sharing = &sharings[i / 4 % SHARINGS];
         make_neighbours(&pair, i);
         pair.token.size = DL_SMALL;
-        make_shared_password(&made, &pair, both_fresh);
-        expect_step(&made, pair.first);
-        make_shared_password(&made, &pair, used_and_fresh);
-        expect_step(&made, pair.second);
+        make_shared_password(&made, sharing, &pair, both_fresh);
+        require(compare_case(&made) == sharing->both && memcmp(table, made.row, DL_ROW_BYTES) == 0, "two fresh steps with one password");
+        make_shared_password(&made, sharing, &pair, used_and_fresh);
+        require(compare_case(&made) == sharing->second && lent_signed_words[0] == pair.second, "a used and a fresh step with one password");
     }
-    came_up(LOGGED_IN);
+    came_up(LOGGED_IN | NEXT_WANTED);
 }
 
 // ---- rows that are not well formed, or just so

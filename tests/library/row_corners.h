@@ -23,7 +23,6 @@ struct corner {
 };
 
 #define LOCKED {ROW_STATE, 3}, {ROW_ERRORS, 5}, {ROW_LOCKED_AT, 1000}
-#define OPENED {ROW_STATE, 2}, {ROW_ERRORS, 0}, {ROW_LOCKED_AT, 0}
 #define EVENT {ROW_KIND, 1}, {ROW_PERIOD, 0}
 #define NO_VALUES 0, {0}
 

@@ -4,6 +4,7 @@
 //   window COUNT   the short run, for valgrind: COUNT cases, fewer steps with the same password, no long buffers
 #define _DEFAULT_SOURCE
 #include "window_calls.h"
+#include "window_collisions.h"
 #include "window_corners.h"
 #include "window_counts.h"
 #include "window_edges.h"
@@ -108,10 +109,10 @@ static const struct test tests[] = {
     {"set case 9, step by step", steps_of_case_9, 0},
     {"set case 10, step by step", steps_of_case_10, 0},
     {"further windows, step by step", steps_of_further, 0},
-    {"counts of request 2: time, single", counts_of_time, 0},
-    {"counts of request 2: event, single", counts_of_events, 0},
-    {"counts of request 2: pairs", counts_of_pairs, 0},
-    {"counts of request 2: seven digits", counts_of_seven_digits, 0},
+    {"counts of requests 2 and 5: time, single", counts_of_time, 0},
+    {"counts of requests 2 and 5: event, single", counts_of_events, 0},
+    {"counts of requests 2 and 5: pairs", counts_of_pairs, 0},
+    {"counts of requests 2 and 5: seven digits", counts_of_seven_digits, 0},
     {"every kind, algorithm, size, number of digits and key length; single, challenged and pair", every_combination, 0},
     {"random tokens and passwords", random_calls, 0},
     {"single, a fresh step", single_fresh, 0},
@@ -153,11 +154,18 @@ static const struct test tests[] = {
     {"event, next 2^32 - 60 to 2^32", edge_last_counts, 0},
     {"event, next 2^32, single", edge_count_end, 0},
     {"event, next 2^32, pair", edge_count_end_pair, 0},
-    {"two fresh steps with one password: the smaller", twins_fresh, 0},
+    {"two fresh steps with one password: neither", twins_fresh, 0},
     {"a used and a fresh step with one password: the fresh one", twins_used_and_fresh, 0},
     {"two used steps with one password", twins_used, 0},
     {"two steps with one password, as first of a pair", twins_in_pairs, 0},
     {"two steps in a row with one password, as a pair", equal_neighbours, 0},
+    {"tokens found to have one password at two steps or three: they have", equal_passwords, 0},
+    {"fifty such tokens of each kind and algorithm", enough_were_found, 0},
+    {"those of request 5 among them", told_tokens_were_found, 0},
+    {"request 5's table", told_answers, 0},
+    {"each found token, single and pair, from its first equal step to behind the last", found_tokens, 0},
+    {"three steps with one password", three_steps, 0},
+    {"found tokens, steps and clocks near the equal ones", near_equal_steps, 0},
     {"arguments at the ends of their ranges", just_inside, 0},
     {"passwords at the ends of their ranges", just_inside_typed, 0},
     {"each argument out of its range", just_outside, 0},

@@ -22,7 +22,8 @@ static inline void type_steps(struct window_call *call, int64_t presented, int64
 static inline void expect_plain(const struct window_call *call, struct window_answer answer)
 {
     struct window_answer said = window_check(call);
-    require(said.code == answer.code && said.step == answer.step && said.computed == answer.computed, "the reference's plain answer");
+    require(said.code == answer.code && said.step == answer.step && said.computed == answer.computed && said.fresh == answer.fresh,
+            "the reference's plain answer");
     expect(call, answer);
 }
 
@@ -43,7 +44,7 @@ static inline uint64_t candidates_to(const struct window_call *call, int64_t las
 static inline void expect_done(struct window_call *call, const struct twins *pair, int64_t following, int64_t accepted)
 {
     type_steps(call, pair->first, following);
-    expect_plain(call, done(accepted, candidates_to(call, accepted)));
+    expect_plain(call, done(accepted, candidates_to(call, following == ALONE ? INT64_MAX : accepted)));
 }
 
 static inline void expect_used(struct window_call *call, const struct twins *pair, int64_t following)
@@ -52,11 +53,12 @@ static inline void expect_used(struct window_call *call, const struct twins *pai
     expect_plain(call, used(candidates_to(call, INT64_MAX)));
 }
 
-static inline void smallest_fresh(const struct twins *pair)
+static inline void neither_of_two(const struct twins *pair)
 {
     struct window_call call;
     place_twins(&call, pair, both_fresh);
-    expect_done(&call, pair, ALONE, pair->first);
+    type_steps(&call, pair->first, ALONE);
+    expect_plain(&call, next_wanted(candidates_to(&call, INT64_MAX), 2));
 }
 
 static inline void fresh_wins(const struct twins *pair)
@@ -106,7 +108,7 @@ static inline void with_twins(void (*test)(const struct twins *), unsigned wante
     came_up(wanted);
 }
 
-static inline void twins_fresh(void) { with_twins(smallest_fresh, DONE); }
+static inline void twins_fresh(void) { with_twins(neither_of_two, NEXT_WANTED); }
 static inline void twins_used_and_fresh(void) { with_twins(fresh_wins, DONE); }
 static inline void twins_used(void) { with_twins(no_fresh, USED); }
 static inline void twins_in_pairs(void) { with_twins(second_decides, DONE | USED); }
@@ -152,17 +154,18 @@ static inline void make_listed(struct window_call *call, const struct listed *wi
 {
     *call = (struct window_call){.kind = window->kind, .digits = 10, .period = window->period, .size = window->size,
                                  .next = (uint64_t)window->next, .now = (uint64_t)window->now, .key = "dykeladder",
-                                 .key_len = 16, .step_len = 1, .computed_len = 1};
+                                 .key_len = 16, .step_len = 1, .computed_len = 1, .fresh_len = 1};
     set_offset(call, window->offset);
 }
 
-// Of a password that belongs to the step, or to none of the window: the candidates are counted up to the accepted step, or all.
-static inline struct window_answer listed_answer(const struct listed *window, int is_listed, int is_fresh_step, int64_t accepted)
+// Of a password that belongs to the step, or to none of the window. All candidates are counted, or those up to a pair's accepted step.
+static inline struct window_answer listed_answer(const struct listed *window, int is_listed, int is_fresh_step, int64_t step, int is_pair)
 {
     uint64_t all = (uint64_t)(window->last - window->first + 1);
+    int64_t accepted = step + is_pair;
     if (!is_listed)
         return wrong(all);
-    return is_fresh_step ? done(accepted, (uint64_t)(accepted - window->first + 1)) : used(all);
+    return is_fresh_step ? done(accepted, is_pair ? (uint64_t)(accepted - window->first + 1) : all) : used(all);
 }
 
 // The step's password alone and then as the first of a pair; those of 10 digits are all different here.
@@ -171,9 +174,9 @@ static inline void expect_step(struct window_call *call, const struct listed *wi
     int is_fresh_step = step >= window->next;
     int is_listed = window->first <= step && step <= window->last;
     type_steps(call, step, ALONE);
-    expect(call, listed_answer(window, is_listed, is_fresh_step, step));
+    expect(call, listed_answer(window, is_listed, is_fresh_step, step, 0));
     type_steps(call, step, step + 1);
-    expect(call, listed_answer(window, is_listed && step < window->last, is_fresh_step, step + 1));
+    expect(call, listed_answer(window, is_listed && step < window->last, is_fresh_step, step, 1));
 }
 
 // Every step far around the window; those below 0 or past the last count wrap round, and are none of the window's.

@@ -45,6 +45,7 @@ static inline void set_now(struct window_call *call, uint64_t value) { call->now
 static inline void set_key_len(struct window_call *call, uint64_t value) { call->key_len = value; }
 static inline void set_step_len(struct window_call *call, uint64_t value) { call->step_len = value; }
 static inline void set_computed_len(struct window_call *call, uint64_t value) { call->computed_len = value; }
+static inline void set_fresh_len(struct window_call *call, uint64_t value) { call->fresh_len = value; }
 
 static inline void set_time_period(struct window_call *call, uint64_t value)
 {
@@ -140,7 +141,7 @@ static const struct edge inside[] = {
     {set_time_offset, 0}, {set_time_offset, 1200}, {set_event_offset, 600}, {set_now, 0}, {set_now, (UINT64_C(1) << 40) - 1},
     {set_size, 1}, {set_size, 3}, {set_key_len, 16}, {set_key_len, 32}, {set_challenge_len, 0}, {set_challenge_len, 4},
     {set_challenge_len, 32}, {set_challenge_byte, 0x21}, {set_challenge_byte, 0x7e}, {set_step_len, 1},
-    {set_computed_len, 1}};
+    {set_computed_len, 1}, {set_fresh_len, 1}};
 
 // Passwords, set in place of those typed in.
 static const struct edge typed_inside[] = {
@@ -166,7 +167,7 @@ static const struct edge outside[] = {
     {set_following_len, 5}, {set_following_len, 11}, {set_following_len, BYTES}, {set_following_len, 6 + BYTES},
     {set_following_byte, '0' - 1}, {set_following_byte, '9' + 1}, {set_following_byte, 'a'}, {set_following_byte, '0' + 0x80},
     {set_pair_challenge_len, 4}, {set_pair_challenge_len, 32}, {set_pair_challenge_len, 33}, {set_step_len, 0},
-    {set_computed_len, 0}};
+    {set_computed_len, 0}, {set_fresh_len, 0}};
 
 enum {
     INSIDE = sizeof inside / sizeof *inside,
@@ -254,10 +255,10 @@ static const size_t over = (size_t)1 << 32;
 // Key, challenge and passwords each start a page of the room and reach over the others.
 static inline uint16_t run_long(const uint8_t *room, const size_t lengths[4])
 {
-    lend_both();
+    lend_all();
     uint16_t code = dl_check(DL_EVENT_TOKEN, DL_ALGORITHM_SM4, 8, 0, 0, WINDOW_FARTHEST, 0, DL_SMALL,
                              room, lengths[0], room + PAGE, lengths[1], room + 2 * PAGE, lengths[2],
-                             room + 3 * PAGE, lengths[3], lent_long_words, 1, counts + COUNT_AT, 1);
+                             room + 3 * PAGE, lengths[3], lent_long_words, 1, lent_computed, 1, lent_fresh, 1);
     count_answer(code);
     return code;
 }

@@ -1,6 +1,6 @@
 // The check of document 01, Part 3, over the password of otp_reference.h, written from the documents alone: the arguments are held against
 // Parts 2 to 4, and each step of a wide stretch against the document's own inequalities. The passwords that it computes are counted as
-// document 02, request 2, says.
+// document 02, request 2, says, and the fresh steps that match as its request 5 does.
 #ifndef WINDOW_REFERENCE_H
 #define WINDOW_REFERENCE_H
 
@@ -29,7 +29,7 @@ struct window_call {
     uint16_t offset; // d + 600
     uint64_t next, now;
     uint8_t key[WINDOW_LENGTHS], challenge[WINDOW_LENGTHS];
-    size_t key_len, challenge_len, step_len, computed_len;
+    size_t key_len, challenge_len, step_len, computed_len, fresh_len;
     struct window_typed presented, following; // nothing following: a single check
 };
 
@@ -37,6 +37,7 @@ struct window_answer {
     uint16_t code;
     uint64_t step; // with DL_DONE
     uint64_t computed; // how many passwords, with every code but DL_BAD_ARGUMENT
+    uint64_t fresh; // how many fresh steps match, likewise
 };
 
 // ---- the arguments
@@ -86,7 +87,7 @@ static inline int window_in_range(const struct window_call *call)
     struct otp_arguments arguments = window_password_arguments(call, 0);
     return otp_in_range(&arguments) && call->now < CLOCK_END
         && (call->size == DL_SMALL || call->size == DL_MEDIUM || call->size == DL_LARGE)
-        && window_is_token(call) && window_is_typed(call) && call->step_len > 0 && call->computed_len > 0;
+        && window_is_token(call) && window_is_typed(call) && call->step_len > 0 && call->computed_len > 0 && call->fresh_len > 0;
 }
 
 // ---- the candidates
@@ -154,6 +155,9 @@ static inline int window_is_same(const struct window_typed *one, const struct wi
 struct window_search {
     uint64_t computed; // passwords so far
     int is_begun; // the step before is a candidate with the first password of a pair
+    uint64_t fresh; // matches that are fresh
+    int64_t first_fresh; // the first of them
+    int has_used; // a match that is not
 };
 
 // The step is a candidate with the password, computed this once; of a pair it has the following one, and the step before has the first.
@@ -172,28 +176,44 @@ static inline int window_matches(struct window_search *search, const struct wind
     return was_begun && window_is_same(&password, &call->following);
 }
 
-// Up the candidates, to the first match that is fresh.
-static inline struct window_answer window_swept(const struct window_call *call)
+static inline void window_add_match(struct window_search *search, int64_t step, int is_fresh_match)
+{
+    if (is_fresh_match && search->fresh++ == 0)
+        search->first_fresh = step;
+    search->has_used |= !is_fresh_match;
+}
+
+// Up the candidates: of one password all of them, of a pair to the first match that is fresh.
+static inline void window_sweep(struct window_search *search, const struct window_call *call)
 {
     struct window window = window_of(call);
-    struct window_search search = {0, 0};
-    int64_t middle = window_middle(&window), is_pair = call->following.len > 0;
-    uint16_t otherwise = DL_WRONG;
-    for (int64_t step = middle - WINDOW_STRETCH; step <= middle + WINDOW_STRETCH; step++) {
-        if (!window_matches(&search, &window, call, step))
-            continue;
-        if (step - is_pair >= window.next)
-            return (struct window_answer){DL_DONE, (uint64_t)step, search.computed};
-        otherwise = DL_USED;
+    int64_t last = window_middle(&window) + WINDOW_STRETCH, is_pair = call->following.len > 0;
+    for (int64_t step = last - 2 * WINDOW_STRETCH; step <= last && !(is_pair && search->fresh > 0); step++)
+        if (window_matches(search, &window, call, step))
+            window_add_match(search, step, step - is_pair >= window.next);
+}
+
+// One fresh match is accepted; two or more ask for the following password.
+static inline struct window_answer window_judge(const struct window_search *search)
+{
+    struct window_answer answer = {search->has_used ? DL_USED : DL_WRONG, 0, search->computed, search->fresh};
+    if (search->fresh > 1)
+        answer.code = DL_NEXT_WANTED;
+    if (search->fresh == 1) {
+        answer.code = DL_DONE;
+        answer.step = (uint64_t)search->first_fresh;
     }
-    return (struct window_answer){otherwise, 0, search.computed};
+    return answer;
 }
 
 static inline struct window_answer window_check(const struct window_call *call)
 {
+    struct window_search search = {0};
     if (!window_in_range(call))
-        return (struct window_answer){DL_BAD_ARGUMENT, 0, 0};
-    return window_is_searched(call) ? window_swept(call) : (struct window_answer){DL_WRONG, 0, 0};
+        return (struct window_answer){.code = DL_BAD_ARGUMENT};
+    if (window_is_searched(call))
+        window_sweep(&search, call);
+    return window_judge(&search);
 }
 
 #endif

@@ -64,6 +64,7 @@ static inline void make_token(struct window_call *call, uint8_t kind)
     make_challenge(call, one_in(2) ? 0 : random_between(4, 32));
     call->step_len = 1 + random_below(MOST_STEPS);
     call->computed_len = 1 + random_below(MOST_COUNTS);
+    call->fresh_len = 1 + random_below(MOST_COUNTS);
     call->offset = WINDOW_FARTHEST;
     call->now = random_long(CLOCK_END);
 }
