@@ -1,7 +1,7 @@
 // A random script for the desk's line program and its answers by tests/library/desk_reference.h: desk_scripts SEED ROWS CALLS LINES ANSWERS,
-// the last two the files that are written.
+// the last two the files that are written. Where three divides the seed, its tokens show one password at two steps.
 #define _DEFAULT_SOURCE
-#include "../library/desk_lists.h"
+#include "../library/collision_lists.h"
 
 static FILE *lines, *replies;
 
@@ -105,17 +105,33 @@ static void put_other_line(size_t rows)
 
 // ---- a script
 
-static void put_script(size_t rows, size_t calls)
+static struct collision_list list; // without a collision one of any tokens
+
+static void begin_script(size_t rows, int on_equal_steps)
 {
-    static struct list list;
-    struct desk_call call;
-    begin_list(&list, rows);
+    if (on_equal_steps)
+        begin_collision_list(&list, rows);
+    else
+        begin_list(&list.base, rows);
     fprintf(lines, "rows,%zu\n", rows);
+}
+
+static void next_line_call(struct desk_call *call)
+{
+    if (list.collision != NULL)
+        next_collision_call(&list, call);
+    else
+        next_call(&list.base, call);
+}
+
+static void put_calls(size_t rows, size_t calls)
+{
+    struct desk_call call;
     for (size_t i = 0; i < calls; i++) {
         if (one_in(30))
             put_other_line(rows);
         do
-            next_call(&list, &call);
+            next_line_call(&call);
         while (!can_be_written(&call, rows));
         struct desk_answer answer = desk_answer_to(table, &call);
         put_line(&call);
@@ -127,12 +143,14 @@ int main(int argc, char **argv)
 {
     if (argc != 6)
         die("five arguments are needed: SEED ROWS CALLS LINES ANSWERS");
-    random_state = strtoull(argv[1], NULL, 10);
+    uint64_t seed = strtoull(argv[1], NULL, 10), rows = strtoull(argv[2], NULL, 10);
+    random_state = seed;
     lines = fopen(argv[4], "w");
     replies = fopen(argv[5], "w");
     if (lines == NULL || replies == NULL)
         die("a file cannot be written");
     otp_open_library();
-    put_script(strtoull(argv[2], NULL, 10), strtoull(argv[3], NULL, 10));
+    begin_script(rows, seed % 3 == 0);
+    put_calls(rows, strtoull(argv[3], NULL, 10));
     return fclose(lines) != 0 || fclose(replies) != 0;
 }
