@@ -44,30 +44,35 @@ static struct race races[SCENES];
 
 // ---- the contestants
 
-static void put_answer(uint16_t code, uint64_t computed)
+static uint64_t answer_of(uint16_t code, uint64_t computed, uint64_t fresh)
 {
-    uint64_t answer = (uint64_t)code << 32 | computed;
+    return (uint64_t)code << 32 | fresh << 16 | computed;
+}
+
+static void put_answer(uint16_t code, uint64_t computed, uint64_t fresh)
+{
+    uint64_t answer = answer_of(code, computed, fresh);
     memcpy(out, &answer, sizeof answer);
 }
 
 static void ours(uint64_t number)
 {
     const struct window_call *call = &scene->call;
-    uint64_t step, computed = 0;
+    uint64_t step, computed = 0, fresh = 0;
     (void)number;
     uint16_t code = dl_check(call->kind, call->algorithm, call->digits, call->period, call->next, call->offset, call->now,
                              call->size, call->key, call->key_len, NULL, 0, call->presented.bytes, call->presented.len, NULL, 0,
-                             &step, 1, &computed, 1);
-    put_answer(code, computed);
+                             &step, 1, &computed, 1, &fresh, 1);
+    put_answer(code, computed, fresh);
 }
 
 static void openssl(uint64_t number)
 {
     const struct window_call *call = &scene->call;
-    uint64_t step, computed = 0;
+    uint64_t step, computed = 0, fresh = 0;
     (void)number;
-    uint16_t code = peer_single_check(&scene->row, call->size, call->now, &call->presented, &step, &computed);
-    put_answer(code, computed);
+    uint16_t code = peer_single_check(&scene->row, call->size, call->now, &call->presented, &step, &computed, &fresh);
+    put_answer(code, computed, fresh);
 }
 
 // ---- before the timing
@@ -78,7 +83,7 @@ static void make_scene(struct scene *to, const struct size *size, uint8_t algori
     int is_time = size->kind == DL_TIME_TOKEN;
     *call = (struct window_call){
         .kind = size->kind, .algorithm = algorithm, .digits = DIGITS, .period = is_time ? PERIOD : 0, .size = size->size,
-        .offset = WINDOW_FARTHEST, .next = LONG_AGO, .now = CLOCK, .key_len = KEY_LEN, .step_len = 1, .computed_len = 1};
+        .offset = WINDOW_FARTHEST, .next = LONG_AGO, .now = CLOCK, .key_len = KEY_LEN, .step_len = 1, .computed_len = 1, .fresh_len = 1};
     for (size_t i = 0; i < KEY_LEN; i++)
         call->key[i] = (uint8_t)(i * 7);
     window_password(call, CLOCK / PERIOD + OUTSIDE, &call->presented);
@@ -91,13 +96,13 @@ static void make_scene(struct scene *to, const struct size *size, uint8_t algori
 // Ours, the peer and the tests' reference find it wrong after all candidates.
 static void compare(const struct race *race, uint64_t candidates)
 {
-    uint64_t wrong = (uint64_t)DL_WRONG << 32 | candidates, said;
+    uint64_t wrong = answer_of(DL_WRONG, candidates, 0), said;
     struct window_answer answer = window_check(&scene->call);
     for (int i = 0; i < 2; i++) {
         race->contestants[i].call(0);
         memcpy(&said, out, sizeof said);
-        if (said != wrong || answer.code != DL_WRONG || answer.computed != candidates)
-            die("a check's answer or count is not as it should be");
+        if (said != wrong || answer_of(answer.code, answer.computed, answer.fresh) != wrong)
+            die("a check's answer or counts are not as they should be");
     }
 }
 

@@ -1,5 +1,5 @@
 // The desk beside the same calls in C over OpenSSL (desk_peer.h) and beside liboath, which has passwords and windows but no table:
-// prints rows of the report's table, then how the cost grows with the rows, and which refusals write.
+// prints rows of the report's table, then how the cost grows with the rows, what a login costs beside a wrong one, and which refusals write.
 #define _DEFAULT_SOURCE
 #include "desk_scenes.h"
 #include "desk_refusals.h"
@@ -211,6 +211,26 @@ static void print_growth(void)
         print_size(size);
 }
 
+// ---- a login beside a wrong one
+
+#define MOST_BESIDE_WRONG 1.05
+
+// Both compute every candidate, so that the time tells nothing of the password.
+static void print_beside_wrong(enum line_name right, enum line_name wrong)
+{
+    double ours = races[right].contestants[0].best, wrongs = races[wrong].contestants[0].best, ratio = ours / wrongs;
+    printf("| %-28s | %8.0f | %-28s | %8.0f | %5.2f | %7.2f | %-3s |\n", lines[right].what, ours, lines[wrong].what, wrongs, ratio,
+           MOST_BESIDE_WRONG, ratio <= MOST_BESIDE_WRONG ? "yes" : "NO");
+}
+
+static void print_logins(void)
+{
+    printf("\n| %-28s | %8s | %-28s | %8s | %5s | %7s | %-3s |\n", "A login", "Ours, ns", "Beside", "Ours, ns", "Ratio", "At most", "Met");
+    puts("|---|--:|---|--:|--:|--:|---|");
+    print_beside_wrong(LOGIN_SM3, WRONG_SM3);
+    print_beside_wrong(LOGIN_SM4, WRONG_SM4);
+}
+
 int main(void)
 {
     set_up();
@@ -221,6 +241,7 @@ int main(void)
     for (size_t i = 0; i < LINES; i++)
         print_race(&races[i]);
     print_growth();
+    print_logins();
     print_refusals();
     return 0;
 }

@@ -153,11 +153,12 @@ struct peer_asked {
     struct peer_typed password, following;
 };
 
-// What a check finds: DL_DONE with the accepted step, DL_USED or DL_WRONG, and how many passwords it computed.
+// What a check finds: DL_DONE with the accepted step, DL_NEXT_WANTED, DL_USED or DL_WRONG; how many passwords it computed, and how many fresh
+// steps match.
 struct peer_found {
     uint16_t code;
     int64_t accepted;
-    uint64_t computed;
+    uint64_t computed, fresh;
 };
 
 static inline int peer_read_password(const struct window_typed *typed, struct peer_typed *read)
@@ -174,22 +175,37 @@ static inline int peer_read_password(const struct window_typed *typed, struct pe
     return 1;
 }
 
-// Up the candidates, each computed at most once, to the accepted one. Of a pair this is the second step, and the first has to be fresh.
-static inline struct peer_found peer_sweep(struct peer_token *token, const struct peer_asked *asked, struct peer_window window)
+// One password: up all candidates, each computed once. The used ones come before the fresh ones.
+static inline struct peer_found peer_sweep_single(struct peer_token *token, const struct peer_asked *asked, struct peer_window window)
 {
     struct peer_found found = {.code = DL_WRONG};
-    int64_t fresh = (int64_t)be64toh(token->row->next) + asked->is_pair;
-    uint64_t last = asked->is_pair ? asked->following.number : asked->password.number;
-    int is_begun = !asked->is_pair; // the step before has the first password of the pair
+    int64_t next = (int64_t)be64toh(token->row->next);
+    for (int64_t step = window.first; step < window.end; step++) {
+        found.computed++;
+        if (peer_password(token, (uint64_t)step) != asked->password.number)
+            continue;
+        found.accepted = step;
+        found.fresh += step >= next;
+        found.code = found.fresh == 0 ? DL_USED : found.fresh == 1 ? DL_DONE : DL_NEXT_WANTED;
+    }
+    return found;
+}
+
+// Two passwords: up the candidates, each computed at most once, to the accepted one. This is the second step, and the first has to be fresh.
+static inline struct peer_found peer_sweep_pair(struct peer_token *token, const struct peer_asked *asked, struct peer_window window)
+{
+    struct peer_found found = {.code = DL_WRONG};
+    int64_t next = (int64_t)be64toh(token->row->next);
+    int is_begun = 0; // the step before has the first password
     for (int64_t step = window.first; step < window.end; step++) {
         uint64_t password = peer_password(token, (uint64_t)step);
         found.computed++;
-        if (is_begun && password == last) {
-            if (step >= fresh)
-                return (struct peer_found){DL_DONE, step, found.computed};
+        if (is_begun && password == asked->following.number) {
+            if (step > next)
+                return (struct peer_found){DL_DONE, step, found.computed, 1};
             found.code = DL_USED;
         }
-        is_begun = !asked->is_pair || password == asked->password.number;
+        is_begun = password == asked->password.number;
     }
     return found;
 }
@@ -200,7 +216,8 @@ static inline struct peer_found peer_check(const struct peer_row *row, const str
     if (asked->password.digits != row->digits || (asked->is_pair && asked->following.digits != row->digits))
         return (struct peer_found){.code = DL_WRONG};
     peer_prepare(&token, row);
-    return peer_sweep(&token, asked, peer_window(row, asked->size, asked->now));
+    struct peer_window window = peer_window(row, asked->size, asked->now);
+    return asked->is_pair ? peer_sweep_pair(&token, asked, window) : peer_sweep_single(&token, asked, window);
 }
 
 // ---- a call on its row
@@ -254,6 +271,8 @@ static inline uint16_t peer_serve(struct peer_row *row, const struct desk_call *
         peer_accept(row, call, found.accepted, values);
         return desk_rules[call->name].success;
     }
+    if (found.code == DL_NEXT_WANTED)
+        return desk_next_code(call->name);
     peer_add_error(row, call);
     return found.code == DL_USED ? desk_used_code(call->name) : desk_wrong_code(call->name);
 }
@@ -286,7 +305,7 @@ PEER_CALL peer_checked_call(struct peer_row *table, const struct desk_call *call
 
 // The check of one password, on the row's numbers alone.
 PEER_CALL peer_single_check(const struct peer_row *row, uint8_t size, uint64_t now, const struct window_typed *presented,
-                            uint64_t *step, uint64_t *computed)
+                            uint64_t *step, uint64_t *computed, uint64_t *fresh)
 {
     struct peer_asked asked = {.size = size, .now = now};
     if (!peer_track_kept(row) || size < DL_SMALL || size > DL_LARGE || now >= CLOCK_END
@@ -294,6 +313,7 @@ PEER_CALL peer_single_check(const struct peer_row *row, uint8_t size, uint64_t n
         return DL_BAD_ARGUMENT;
     struct peer_found found = peer_check(row, &asked);
     *computed = found.computed;
+    *fresh = found.fresh;
     if (found.code == DL_DONE)
         *step = (uint64_t)found.accepted;
     return found.code;

@@ -15,8 +15,11 @@ enum {
     NO_SERIAL,
     REFUSING_TABLE = DAMAGED_SERIAL * DL_ROW_BYTES,
     EXPIRES = ROW_LEAST_WAIT / 2, // before a wait can have run out
-    MOST_REFUSALS = 8,
+    MOST_REFUSALS = 9, // and a zero
 };
+
+// Every token shows this at the counts 3 and 6, its key being the number 3403.
+#define TWO_COUNTS "547160"
 
 static const struct refusals {
     const char *keep; // what they leave as it was
@@ -39,16 +42,19 @@ static const struct refusals {
       {DL_TOKEN_SUSPENDED, CALL_LOGIN, DL_STATE_SUSPENDED, 0, "123456"},
       {DL_TOKEN_NOT_ACTIVATED, CALL_LOGIN, DL_STATE_NOT_ACTIVATED, 0, "123456"},
       {DL_TOKEN_VOID, CALL_LOGIN, DL_STATE_VOID, 0, "123456"},
-      {DL_TOKEN_EXPIRED, CALL_LOGIN, DL_STATE_READY, EXPIRES, "123456"}}},
+      {DL_TOKEN_EXPIRED, CALL_LOGIN, DL_STATE_READY, EXPIRES, "123456"},
+      {DL_NEXT_WANTED, CALL_LOGIN, DL_STATE_READY, 0, TWO_COUNTS},
+      {DL_MANAGEMENT_NEXT_WANTED, CALL_UNLOCK, DL_STATE_LOCKED_BY_HAND, 0, TWO_COUNTS}}},
 };
 
 // ---- the calls
 
 static inline uint16_t load_token(uint8_t *table, uint64_t serial)
 {
-    static const uint8_t any_key[OTP_LEAST_KEY];
-    return dl_load(table, REFUSING_TABLE, serial, DL_TIME_TOKEN, OTP_SM3, OTP_LEAST_DIGITS, ROW_MOST_PERIOD, ROW_MOST_LIMIT,
-                   any_key, sizeof any_key, ROW_LEAST_WAIT, EXPIRES);
+    uint8_t of_3403[OTP_LEAST_KEY];
+    otp_put_number(of_3403, 3403, sizeof of_3403);
+    return dl_load(table, REFUSING_TABLE, serial, DL_EVENT_TOKEN, OTP_SM3, OTP_LEAST_DIGITS, 0, ROW_MOST_LIMIT, of_3403,
+                   sizeof of_3403, ROW_LEAST_WAIT, EXPIRES);
 }
 
 static inline uint16_t refused(uint8_t *table, const struct refusal *refusal)
@@ -60,7 +66,8 @@ static inline uint16_t refused(uint8_t *table, const struct refusal *refusal)
         return load_token(table, refusal->serial);
     if (refusal->name == CALL_ACTIVATE)
         return dl_activate(table, REFUSING_TABLE, refusal->serial, refusal->now, password, n, password, n, carried, DL_MOST_VALUES);
-    return dl_login(table, REFUSING_TABLE, refusal->serial, refusal->now, password, n, carried, DL_MOST_VALUES);
+    return (refusal->name == CALL_UNLOCK ? dl_unlock : dl_login)(table, REFUSING_TABLE, refusal->serial, refusal->now, password, n,
+                                                                 carried, DL_MOST_VALUES);
 }
 
 static inline uint8_t *read_only_table(void)
@@ -106,14 +113,14 @@ static inline void print_refusals_of(uint8_t *table, const struct refusals *some
             sprintf(writers + strlen(writers), "%04x ", refusal->code);
         written |= is_writer;
     }
-    printf("| %-32s | %-32s | %-32s | %-3s |\n", codes, some->keep, written ? writers : "none", written ? "NO" : "yes");
+    printf("| %-40s | %-32s | %-40s | %-3s |\n", codes, some->keep, written ? writers : "none", written ? "NO" : "yes");
 }
 
 static inline void print_refusals(void)
 {
     uint8_t *table = read_only_table();
     signal(SIGSEGV, catch_write);
-    printf("\n| %-32s | %-32s | %-32s | %-3s |\n|---|---|---|---|\n", "Refusals", "Leave as it was", "Write nonetheless", "Met");
+    printf("\n| %-40s | %-32s | %-40s | %-3s |\n|---|---|---|---|\n", "Refusals", "Leave as it was", "Write nonetheless", "Met");
     for (size_t i = 0; i < sizeof refusals / sizeof *refusals; i++)
         print_refusals_of(table, &refusals[i]);
     signal(SIGSEGV, SIG_DFL);
