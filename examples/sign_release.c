@@ -102,6 +102,15 @@ static void sign_after_the_wait(void)
                            values, DL_MOST_VALUES));
 }
 
+/* Six digits are seldom those of two steps near the clock's. The desk then accepts neither and asks for the next code. */
+static void sign_with_the_next_code(void)
+{
+    now = 1772824890;
+    say("years later, sign with a code of two steps", sign(shown(now, "")));
+    now += PERIOD;
+    say("sign with the next one, as the desk asks", sign(shown(now, "")));
+}
+
 static void take_the_token_back(void)
 {
     static const char *const states[] = {"empty", "not activated", "ready", "locked by errors", "locked by hand",
@@ -120,6 +129,7 @@ int main(void)
     sign_a_release();
     lock_by_errors();
     sign_after_the_wait();
+    sign_with_the_next_code();
     take_the_token_back();
     return 0;
 }

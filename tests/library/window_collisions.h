@@ -32,7 +32,7 @@ static inline void equal_passwords(void)
         expect_equal(&triples[i]);
 }
 
-// Fifty tokens of each kind and algorithm; as many with a challenge do not count.
+// Fifty tokens of each kind and algorithm; those with a challenge do not count.
 static inline void enough_were_found(void)
 {
     int found[2][2] = {{0}};
