@@ -15,7 +15,7 @@ enum {
     SIZES = 4, ALGORITHMS = 2, SCENES = ALGORITHMS * SIZES,
 };
 
-// The largest time a candidate over the smallest.
+// The largest time a candidate over that of the smallest window. It falls where what all candidates share weighs less.
 #define MOST_GROWTH 1.3
 
 static const struct size {
@@ -130,12 +130,11 @@ static double each(size_t at, size_t contestant)
 // Of an algorithm's sizes, of which this one is the last.
 static double growth(size_t last)
 {
-    double least = each(last, 0), most = least;
-    for (size_t at = last - (SIZES - 1); at < last; at++) {
-        least = each(at, 0) < least ? each(at, 0) : least;
+    size_t first = last - (SIZES - 1);
+    double most = each(last, 0);
+    for (size_t at = first + 1; at < last; at++)
         most = each(at, 0) > most ? each(at, 0) : most;
-    }
-    return most / least;
+    return most / each(first, 0);
 }
 
 static void print_scene(size_t at)

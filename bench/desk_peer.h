@@ -175,8 +175,11 @@ static inline int peer_read_password(const struct window_typed *typed, struct pe
     return 1;
 }
 
+// Each sweep begins a page, as each call does below.
+#define PEER_SWEEP __attribute__((noinline, aligned(4096))) static struct peer_found
+
 // One password: up all candidates, each computed once. The used ones come before the fresh ones.
-static inline struct peer_found peer_sweep_single(struct peer_token *token, const struct peer_asked *asked, struct peer_window window)
+PEER_SWEEP peer_sweep_single(struct peer_token *token, const struct peer_asked *asked, struct peer_window window)
 {
     struct peer_found found = {.code = DL_WRONG};
     int64_t next = (int64_t)be64toh(token->row->next);
@@ -192,7 +195,7 @@ static inline struct peer_found peer_sweep_single(struct peer_token *token, cons
 }
 
 // Two passwords: up the candidates, each computed at most once, to the accepted one. This is the second step, and the first has to be fresh.
-static inline struct peer_found peer_sweep_pair(struct peer_token *token, const struct peer_asked *asked, struct peer_window window)
+PEER_SWEEP peer_sweep_pair(struct peer_token *token, const struct peer_asked *asked, struct peer_window window)
 {
     struct peer_found found = {.code = DL_WRONG};
     int64_t next = (int64_t)be64toh(token->row->next);
