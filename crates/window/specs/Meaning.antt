@@ -8,7 +8,7 @@ use native.Mathlib.Nat.{add-zero, le-trans}
 use native.Mathlib.Omega.{arith}
 use borrow.Author.Tests.{eq-eqb, leb-true, leb-false, lt-ltb, le-leb, ltb-true}
 use lib.Dec.{leb, ltb}
-use Rattle.words.specs.BoolLaws.{and-left, and-right, by-test, and-both, clash, impossible}
+use Rattle.words.specs.BoolLaws.{and-left, and-right, by-test, either-by, and-both, clash, impossible}
 use Rattle.window.specs.declared.Size.{Size}
 use Rattle.window.specs.declared.Step.{Step}
 use Rattle.window.specs.declared.Track.{Track}
@@ -176,9 +176,9 @@ module _ (hit : ℕ → Bool) (ahead next n : ℕ) (bounded : (r : ℕ) → hit 
 
   pub only-means : MeansOnly hit ahead next (onlyOne fresh (settled ahead (checked hit next n)))
   only-means =
-      by-test (leb 2 fresh)
-      (λ t. rw t (several-means only-choice (fresh-two (leb-true 2 fresh t))))
-      (λ t. rw t (found-means only-choice (λ s f. fresh-only (leb-false 2 fresh t) s (f .passes))))
+      either-by (MeansOnly hit ahead next) _
+      (λ t. several-means only-choice (fresh-two (leb-true 2 fresh t)))
+      (λ t. found-means only-choice (λ s f. fresh-only (leb-false 2 fresh t) s (f .passes)))
 
   -- accepted exactly with one, several exactly with more
   module _ (o : Outcome) (means : MeansOnly hit ahead next o) where
