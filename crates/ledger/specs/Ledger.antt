@@ -143,11 +143,15 @@ erred l request clock r =
     (record { state = 3; errors = min 255 (r .errors + 1); «locked_at» = clock })
     (record { state = r .state; errors = min 255 (r .errors + 1); «locked_at» = r .«locked_at» })
 
--- used is 8004 or 8104, wrong 8002, 8102 or 8105; other refusals change nothing more
+-- used is 8004 or 8104, wrong 8002, 8102 or 8105
+abbrev pub countedCodes : List ℕ
+countedCodes = 0x8004 ∷ 0x8104 ∷ 0x8002 ∷ 0x8102 ∷ 0x8105 ∷ []
+
+-- other refusals change nothing more
 abbrev pub answered : Loaded → Request → ℕ → Answer → Reading → Reading
 answered l request clock (Answer.Success number content) r = succeeded request (Answer.Success number content) r
 answered l request clock (Answer.Refused refusal) r =
-    cond (oneOf (numberOf (Answer.Refused refusal)) (0x8004 ∷ 0x8104 ∷ 0x8002 ∷ 0x8102 ∷ 0x8105 ∷ [])) (erred l request clock r) r
+    cond (oneOf (numberOf (Answer.Refused refusal)) countedCodes) (erred l request clock r) r
 
 abbrev pub isQuery : Request → Bool
 isQuery (Request.login password) = false

@@ -31,7 +31,7 @@ use Rattle.token.specs.Lines.{void, atLogin, atSync, elsewhere, lineOf, allowed
 use Rattle.token.specs.Codes.{refusalNumber}
 use Rattle.token.specs.States.{IfAccepted}
 use Rattle.desk.specs.Requests.{Request, challengeGiven, choiceOk, requestOk, sizeOf, valued, challengeOf}
-use Rattle.ledger.specs.Ledger.{Loaded, Marks, Reading, follows, isLogin, isQuery, trackOf, single, pair, withCheck, withoutCheck, requested}
+use Rattle.ledger.specs.Ledger.{Loaded, Marks, Reading, follows, isLogin, countedCodes, isQuery, trackOf, single, pair, withCheck, withoutCheck, requested}
 use Rattle.ledger.specs.RangeLaws.{test-passes}
 use Rattle.ledger.specs.AcceptedLaws.{Acceptable, single-accepts, pair-accepts}
 
@@ -96,7 +96,7 @@ module _ {request : Request} {states : List ℕ} {success : ℕ} {way : Way} (li
 
 -- used or wrong
 abbrev pub counts : Refusal → Bool
-counts f = oneOf (refusalNumber f) (0x8004 ∷ 0x8104 ∷ 0x8002 ∷ 0x8102 ∷ 0x8105 ∷ [])
+counts f = oneOf (refusalNumber f) countedCodes
 
 abbrev pub errs : Refusal → Bool
 errs f = not (eqb (refusalNumber f) 0x9005) && counts f
