@@ -20,6 +20,7 @@ use Rattle.window.specs.declared.asked.Asked.the-variants.{One, Challenged, Two
 use Rattle.window.specs.PasswordAt.{PasswordRule}
 use Rattle.window.specs.Asked.{outcomeOf}
 use Rattle.row.specs.Row.{allOf}
+use Rattle.row.specs.RangeLaws.{test-passes}
 use Rattle.token.specs.declared.answers.Refusal.{Refusal}
 use Rattle.token.specs.declared.answers.Answer.{Answer}
 use Rattle.token.specs.declared.lines.Fails.{Fails}
@@ -32,7 +33,6 @@ use Rattle.token.specs.Codes.{refusalNumber}
 use Rattle.token.specs.States.{IfAccepted}
 use Rattle.desk.specs.Requests.{Request, challengeGiven, choiceOk, requestOk, sizeOf, valued, challengeOf}
 use Rattle.ledger.specs.Ledger.{Loaded, Marks, Reading, follows, isLogin, countedCodes, isQuery, trackOf, single, pair, withCheck, withoutCheck, requested}
-use Rattle.ledger.specs.RangeLaws.{test-passes}
 use Rattle.ledger.specs.AcceptedLaws.{Acceptable, single-accepts, pair-accepts}
 
 -- what follows a line's success: the state, and whether the key is zeroed

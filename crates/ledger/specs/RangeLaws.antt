@@ -1,8 +1,7 @@
 -- Each change that a call makes of a row keeps its numbers in range (document 01, Part 4).
-use Prim.Native.Nat.{ℕ, zero, suc, _+_, _-_, _*_, _^_, _≤_, _<_}
+use Prim.Native.Nat.{ℕ, _+_, _-_, _*_, _^_, _≤_, _<_}
 use mathlib.Core.Path.{_≡_, refl, _∙_}
 use mathlib.Core.Bool.{Bool, true, false, _&&_, _||_, not, cond}
-use mathlib.Core.List.{List, [], _∷_}
 use native.Mathlib.Nat.{div-le-self}
 use native.Mathlib.Omega.{arith}
 use borrow.Author.Tests.{eqb-true, leb-true, ltb-true, le-leb, lt-ltb}
@@ -14,19 +13,13 @@ use Rattle.window.specs.declared.Offset.{Offset}
 use Rattle.window.specs.declared.Track.{Track}
 use Rattle.window.specs.Window.{timeToken, stepAt, distance, farthest, beyond}
 use Rattle.row.specs.declared.Row.{Row}
-use Rattle.row.specs.Row.{lastState, nextOk, offsetOk, allOf, numberTests, numbersOk}
+use Rattle.row.specs.Row.{lastState, nextOk, offsetOk, numberTests, numbersOk}
 use Rattle.row.specs.RowLaws.{InWidths}
-use Rattle.row.specs.RangeLaws.{row-sound}
+use Rattle.row.specs.RangeLaws.{test-passes, row-sound}
 use Rattle.token.specs.Lines.{ready, lockedByErrors}
 use Rattle.token.specs.States.{changed, waitOver, waited, lockedAfter, withState, trackAfter, accepted, errorsAfter, failed}
 use Rattle.ledger.specs.Tokens.{Live, Leaves}
 use Rattle.ledger.specs.AcceptedLaws.{Acceptable}
-
--- a test of a list whose tests all pass
-pub test-passes : (tests : List Bool) (i : ℕ) → allOf tests ≡ true → getD tests i true ≡ true
-test-passes [] i t = refl
-test-passes (b ∷ tests) zero t = and-left _ _ t
-test-passes (b ∷ tests) (suc i) t = test-passes tests i (and-right b _ t)
 
 -- below 2^40, 0 unless state 3
 abbrev lockedOk : ℕ → ℕ → Bool

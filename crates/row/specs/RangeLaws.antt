@@ -14,10 +14,11 @@ use Rattle.window.specs.Window.{timeToken, farthest, Sound}
 use Rattle.row.specs.declared.Row.{Row}
 use Rattle.row.specs.Row.{keyBytes, isTime, periodOk, nextOk, offsetOk, trackOk, allOf, numberTests, numbersOk}
 
-test-at : (bs : List Bool) (i : ℕ) → allOf bs ≡ true → getD bs i true ≡ true
-test-at [] i t = refl
-test-at (b ∷ bs) zero t = and-left _ _ t
-test-at (b ∷ bs) (suc i) t = test-at bs i (and-right b _ t)
+-- a test of a list whose tests all pass
+pub test-passes : (tests : List Bool) (i : ℕ) → allOf tests ≡ true → getD tests i true ≡ true
+test-passes [] i t = refl
+test-passes (b ∷ tests) zero t = and-left _ _ t
+test-passes (b ∷ tests) (suc i) t = test-passes tests i (and-right b _ t)
 
 within : (low x high : ℕ) → leb low x && leb x high ≡ true → (low ≤ x) × (x ≤ high)
 within low x high t = (leb-true low x (and-left _ _ t), leb-true x high (and-right (leb low x) _ t))
@@ -51,7 +52,7 @@ module _ (k : Track) where
 module _ (highest : ℕ) (r : Row) (ok : numbersOk highest r ≡ true) where
   passed : (i : ℕ) → getD (numberTests highest r) i true ≡ true
   unfolding numbersOk
-  passed i = test-at (numberTests highest r) i ok
+  passed i = test-passes (numberTests highest r) i ok
 
   pub known-algorithm : (r .track .scheme .algorithm ≡ 3) ⊎ (r .track .scheme .algorithm ≡ 4)
   unfolding numberTests
