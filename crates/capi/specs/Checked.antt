@@ -11,7 +11,7 @@ use Rattle.window.specs.declared.Size.{Size}
 use Rattle.window.specs.declared.Size.the-variants.{Small, Medium, Large}
 use Rattle.window.specs.declared.Track.{Track}
 use Rattle.window.specs.declared.Outcome.{Outcome}
-use Rattle.window.specs.declared.Outcome.the-variants.{Accepted, Several, Used, Wrong}
+use Rattle.window.specs.declared.Outcome.the-variants.{Accepted, Several, Again, Used, Wrong}
 use Rattle.window.specs.declared.asked.Asked.{Asked}
 use Rattle.window.specs.declared.asked.Asked.the-variants.{One, Challenged, Two}
 use Rattle.window.specs.PasswordAt.{passwordAt, inRange, hasBy}
@@ -101,6 +101,7 @@ checked code step computed fresh = record { code = code; step = step; computed =
 abbrev pub outcomeLeft : Outcome → List ℕ → Left
 outcomeLeft (Accepted s) out = left done (s .0 ∷ drop 1 out)
 outcomeLeft Several out = left 0x8001 out
+outcomeLeft Again out = left 0x8004 out
 outcomeLeft Used out = left 0x8004 out
 outcomeLeft Wrong out = left 0x8002 out
 

@@ -6,7 +6,7 @@ use mathlib.Core.List.{List, [], _∷_, map}
 use lib.ListN.{replicate}
 use Rattle.words.specs.Lists.{allWithin}
 use Rattle.window.specs.declared.Outcome.{Outcome}
-use Rattle.window.specs.declared.Outcome.the-variants.{Accepted, Several, Used, Wrong}
+use Rattle.window.specs.declared.Outcome.the-variants.{Accepted, Several, Again, Used, Wrong}
 use Rattle.otp.specs.Password.{challengeOk, argumentsOk}
 use Rattle.otp.specs.Typed.{passwordOk}
 use Rattle.row.specs.Row.{trackOk}
@@ -91,12 +91,13 @@ examples-refused = refl
 -- ---- the outcomes
 
 abbrev outcomes : List Outcome
-outcomes = Accepted (record { 0 = 5 }) ∷ Several ∷ Used ∷ Wrong ∷ []
+outcomes = Accepted (record { 0 = 5 }) ∷ Several ∷ Again ∷ Used ∷ Wrong ∷ []
 
 -- an accepted step goes to the first element; the other outcomes leave that output; the counts are always written
 pub outcomes-coded : map (λ o. outcomeCounted o 3 4 (7 ∷ 8 ∷ []) (9 ∷ 10 ∷ []) (11 ∷ 12 ∷ [])) outcomes
     ≡ record { code = 0; step = 5 ∷ 8 ∷ []; computed = 3 ∷ 10 ∷ []; fresh = 4 ∷ 12 ∷ [] }
     ∷ record { code = 0x8001; step = 7 ∷ 8 ∷ []; computed = 3 ∷ 10 ∷ []; fresh = 4 ∷ 12 ∷ [] }
+    ∷ record { code = 0x8004; step = 7 ∷ 8 ∷ []; computed = 3 ∷ 10 ∷ []; fresh = 4 ∷ 12 ∷ [] }
     ∷ record { code = 0x8004; step = 7 ∷ 8 ∷ []; computed = 3 ∷ 10 ∷ []; fresh = 4 ∷ 12 ∷ [] }
     ∷ record { code = 0x8002; step = 7 ∷ 8 ∷ []; computed = 3 ∷ 10 ∷ []; fresh = 4 ∷ 12 ∷ [] }
     ∷ []

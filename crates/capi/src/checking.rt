@@ -88,6 +88,7 @@ fn put_outcome(outcome: Outcome, step: &mut [u64]) -> u16
             DONE
         }
         Outcome::Several => NEXT_WANTED,
+        Outcome::Again => USED,
         Outcome::Used => USED,
         Outcome::Wrong => WRONG,
     }

@@ -60,6 +60,7 @@ module _ (l : Line) (w : Row) (clock : ℕ) (P : Decision → Type 0) where
     pub expired : leb (w .expiry .0) clock ≡ true → P (refusing Refusal.Expired w)
     pub accepted : leb (w .expiry .0) clock ≡ false → (a : Step) → o ≡ Outcome.Accepted a → P (judging l f w clock (Outcome.Accepted a))
     pub several : IfSingle asked (leb (w .expiry .0) clock ≡ false → o ≡ Outcome.Several → P (judging l f w clock Outcome.Several))
+    pub again : leb (w .expiry .0) clock ≡ false → o ≡ Outcome.Again → P (judging l f w clock Outcome.Again)
     pub used : leb (w .expiry .0) clock ≡ false → o ≡ Outcome.Used → P (judging l f w clock Outcome.Used)
     pub wrong : leb (w .expiry .0) clock ≡ false → o ≡ Outcome.Wrong → P (judging l f w clock Outcome.Wrong)
 
@@ -79,6 +80,7 @@ module _ (l : Line) (w : Row) (clock : ℕ) (P : Decision → Type 0) where
         → P (judging l f w clock o)
     judging-holds none asked f (Outcome.Accepted a) e j t = j .accepted t a refl
     judging-holds none asked f Outcome.Several e j t = severals none asked e (j .several) t refl
+    judging-holds none asked f Outcome.Again e j t = j .again t refl
     judging-holds none asked f Outcome.Used e j t = j .used t refl
     judging-holds none asked f Outcome.Wrong e j t = j .wrong t refl
 
@@ -201,7 +203,14 @@ module _ (Q : Answer → Type 0) where
     succeeds-done l w clock check Way.Changes q = q
     succeeds-done l w clock check Way.Tells q = q
     succeeds-done l w clock check (Way.Checks asked f) q =
-        record { expired = λ t. refusals Refusal.Expired; accepted = λ t. q; several = if-single asked (λ t e. refusals (f .several)); used = λ t e. refusals (f .used); wrong = λ t e. refusals (f .wrong) }
+        record {
+          expired = λ t. refusals Refusal.Expired;
+          accepted = λ t. q;
+          several = if-single asked (λ t e. refusals (f .several));
+          again = λ t e. refusals (f .used);
+          used = λ t e. refusals (f .used);
+          wrong = λ t e. refusals (f .wrong);
+        }
 
     pub load-answer-holds : (p : Particulars) (key : List ℕ) → Q (Answer.Success 0x0140 Content.Plain) → Q (deskAfter passwords (DeskCall.load p key) s .answer)
     load-answer-holds p key q =

@@ -94,16 +94,16 @@ failedResume request code = line request 1059 (no 0x8406) (no 0x8409) (no 0x8404
 abbrev pub failedSync : Request → ℕ → Line
 failedSync request code = line request 1059 (no 0x8406) (counted code) (counted code) (counted code) (no 0x8405) (no 0x8407)
 
--- steps 16, and 16 with 17, are not fresh: a pair is fresh by its first step
+-- steps 15, and 15 with 16, are not fresh
 abbrev pub usedLines : List Line
 usedLines =
-    failedLogin (Request.login (digits 16)) 0x8004
-    ∷ failedLogin (Request.challengeLogin challenge (digits 4016)) 0x8004
-    ∷ failedActivation (Request.activate (digits 16) (digits 17)) 0x8104
-    ∷ failedUnlock (Request.unlock (digits 16)) 0x8104
-    ∷ failedResume (Request.resume (digits 16)) 0x8104
-    ∷ failedSync (Request.sync 1 (digits 16) (digits 17)) 0x8104
-    ∷ failedSync (Request.sync 2 (digits 16) (digits 17)) 0x8104
+    failedLogin (Request.login (digits 15)) 0x8004
+    ∷ failedLogin (Request.challengeLogin challenge (digits 4015)) 0x8004
+    ∷ failedActivation (Request.activate (digits 15) (digits 16)) 0x8104
+    ∷ failedUnlock (Request.unlock (digits 15)) 0x8104
+    ∷ failedResume (Request.resume (digits 15)) 0x8104
+    ∷ failedSync (Request.sync 1 (digits 15) (digits 16)) 0x8104
+    ∷ failedSync (Request.sync 2 (digits 15) (digits 16)) 0x8104
     ∷ []
 
 -- no candidate matches; a challenge's password is none without it; two passwords in the wrong order
@@ -289,7 +289,7 @@ markedLines =
     }
     -- an error held at 255 locks too; below the limit none does
     ∷ record {
-      call = DeskCall.named (Request.login (digits 16)) 9 1059;
+      call = DeskCall.named (Request.login (digits 15)) 9 1059;
       rows = rowWith 2 0 17 0 ∷ rowWith 2 1 17 0 ∷ rowWith 2 2 17 0 ∷ rowWith 2 255 17 0 ∷ [];
       cells = cell 0x8004 [] (errors 1 ∷ []) ∷ cell 0x8004 [] (errors 2 ∷ []) ∷ cell 0x8004 [] (state 3 ∷ errors 3 ∷ lockedAt 1059 ∷ []) ∷ cell 0x8004 [] (state 3 ∷ lockedAt 1059 ∷ []) ∷ [];
     }

@@ -2,7 +2,7 @@
 -- password rule; `Demand1Laws` has the proof.
 use Prim.Native.Nat.{ℕ}
 use mathlib.Core.Path.{_≡_}
-use mathlib.Core.Bool.{true, cond}
+use mathlib.Core.Bool.{Bool, true, _&&_, _||_, cond}
 use mathlib.Core.List.{List, [], _∷_}
 use lib.Dec.{eqb}
 use Rattle.words.specs.Lists.{oneOf}
@@ -16,7 +16,8 @@ use Rattle.token.specs.declared.answers.Answer.{Answer}
 use Rattle.token.specs.Codes.{numberOf}
 use Rattle.token.specs.States.{waited, withState, accepted, failed}
 use Rattle.desk.specs.Requests.{Request, DeskCall, loadedRow}
-use Rattle.desk.specs.Desk.{deskAfter}
+use Rattle.desk.specs.Desk.{secretAt, deskAfter}
+use Rattle.desk.specs.Press.{pressed}
 
 abbrev pub requestCodes : Request → List ℕ
 requestCodes (Request.login password) = 0x0001 ∷ 0x8404 ∷ 0x8405 ∷ 0x8406 ∷ 0x8407 ∷ 0x8408 ∷ 0x8001 ∷ 0x8004 ∷ 0x8002 ∷ []
@@ -46,10 +47,10 @@ waitCodes = 0x8409 ∷ 0x8404 ∷ 0x8405 ∷ 0x8406 ∷ 0x8407 ∷ 0x8408 ∷ 0x
 abbrev pub errorCodes : List ℕ
 errorCodes = 0x8004 ∷ 0x8104 ∷ 0x8002 ∷ 0x8102 ∷ 0x8105 ∷ []
 
--- only a wait run out; or errors + 1, which locks at the two logins, whose errors are 8004 and 8002; else unchanged
-abbrev pub refusedBytes : ℕ → List ℕ → ℕ → ℕ → List ℕ
-refusedBytes clock s at code =
-    cond (oneOf code waitCodes) (storeRow s at (waited (rowAt s at) clock))
+-- only a wait run out, and so for 8004 to a double press; or errors + 1, which locks at the two logins, whose errors are 8004 and 8002; else unchanged
+abbrev pub refusedBytes : ℕ → List ℕ → ℕ → Bool → ℕ → List ℕ
+refusedBytes clock s at press code =
+    cond (oneOf code waitCodes || (eqb code 0x8004 && press)) (storeRow s at (waited (rowAt s at) clock))
     (cond (oneOf code errorCodes) (storeRow s at (failed (waited (rowAt s at) clock) clock (oneOf code (0x8004 ∷ 0x8002 ∷ [])))) s)
 
 -- the column "Success, and what follows": ready, or another state; of any other code the state is kept
@@ -65,17 +66,22 @@ successBytes clock s at code Content.Plain =
     let after = storeRow s at (followed code (waited (rowAt s at) clock)) in cond (eqb code 0x010a) (wipeKey after at) after
 successBytes clock s at code (Content.Queried status) = s
 
-abbrev pub requestBytes : ℕ → List ℕ → ℕ → Answer → List ℕ
-requestBytes clock s at (Answer.Success code content) = successBytes clock s at code content
-requestBytes clock s at (Answer.Refused refusal) = refusedBytes clock s at (numberOf (Answer.Refused refusal))
+abbrev pub requestBytes : ℕ → List ℕ → ℕ → Bool → Answer → List ℕ
+requestBytes clock s at press (Answer.Success code content) = successBytes clock s at code content
+requestBytes clock s at press (Answer.Refused refusal) = refusedBytes clock s at press (numberOf (Answer.Refused refusal))
 
--- the bytes that document 01 names for an answer to a call
-abbrev pub bytesFor : DeskCall → List ℕ → Answer → List ℕ
-bytesFor (DeskCall.load p key) s (Answer.Success code content) = atPlace s (findEmpty rowBytes s) (λ at. writeRow s at (loadedRow p key) key)
-bytesFor (DeskCall.load p key) s (Answer.Refused refusal) = s
-bytesFor (DeskCall.named request serial clock) s answer = atPlace s (findRow rowBytes s serial) (λ at. requestBytes clock s at answer)
+-- the row at a place finds a double press in the request
+abbrev pub pressAt : PasswordRule → Request → ℕ → List ℕ → ℕ → Bool
+pressAt passwords request clock s at = pressed passwords (rowAt s at .track) (secretAt s at) clock request
+
+-- the bytes that the documents name for an answer to a call
+abbrev pub bytesFor : PasswordRule → DeskCall → List ℕ → Answer → List ℕ
+bytesFor passwords (DeskCall.load p key) s (Answer.Success code content) = atPlace s (findEmpty rowBytes s) (λ at. writeRow s at (loadedRow p key) key)
+bytesFor passwords (DeskCall.load p key) s (Answer.Refused refusal) = s
+bytesFor passwords (DeskCall.named request serial clock) s answer =
+    atPlace s (findRow rowBytes s serial) (λ at. requestBytes clock s at (pressAt passwords request clock s at) answer)
 
 abbrev pub Demand1 : Type 0
 Demand1 =
     (passwords : PasswordRule) (call : DeskCall) (s : List ℕ)
-    → (oneOf (numberOf (deskAfter passwords call s .answer)) (codesOf call) ≡ true) × (deskAfter passwords call s .table ≡ bytesFor call s (deskAfter passwords call s .answer))
+    → (oneOf (numberOf (deskAfter passwords call s .answer)) (codesOf call) ≡ true) × (deskAfter passwords call s .table ≡ bytesFor passwords call s (deskAfter passwords call s .answer))

@@ -1,15 +1,16 @@
 -- The first demand by bytes (docs/OFFER.md): for each code, which offsets of which row may differ from before, what each then holds, and that every other
 -- byte of the table is the same. Offsets and numbers are document 01's: "Accepted step" of Part 3, the row of Part 4, "Success, and what follows" and the
--- wait of Part 5, and "Left in the table". `Demand1BytesLaws` and `OtherBytesLaws` have the proofs.
+-- wait of Part 5, and "Left in the table"; the double press is document 02's. `Demand1BytesLaws` and `OtherBytesLaws` have the proofs.
 use Prim.Native.Nat.{ℕ, _+_, _-_, _/_, min}
 use mathlib.Core.Path.{_≡_}
 use mathlib.Core.Bool.{Bool, false, _&&_, _||_, cond}
 use mathlib.Core.List.{List, [], _∷_, _++_}
 use mathlib.Core.Option.{Option·getD}
 use lib.Dec.{eqb, leb}
-use lib.ListN.{length, getD, replicate}
+use lib.ListN.{length, getD, replicate, take, drop}
 use Rattle.words.specs.Bytes.{AreBytes, beAt, beBytes, put}
 use Rattle.words.specs.Lists.{oneOf}
+use Rattle.window.specs.declared.Track.{Track}
 use Rattle.window.specs.PasswordAt.{PasswordRule}
 use Rattle.row.specs.declared.reading.Place.{Place}
 use Rattle.row.specs.Row.{rowBytes}
@@ -17,8 +18,9 @@ use Rattle.row.specs.Table.{findRow, findEmpty}
 use Rattle.token.specs.declared.answers.Answer.{Answer}
 use Rattle.token.specs.Codes.{numberOf}
 use Rattle.desk.specs.declared.Particulars.{Particulars}
-use Rattle.desk.specs.Requests.{DeskCall}
+use Rattle.desk.specs.Requests.{Request, DeskCall}
 use Rattle.desk.specs.Desk.{deskAfter, checkedOf}
+use Rattle.desk.specs.Press.{pressed}
 use Rattle.desk.specs.Demand1.{atPlace}
 
 -- ---- bytes at offsets of a row
@@ -72,6 +74,19 @@ module _ (s : List ℕ) (at : ℕ) where
   abbrev pub number : ℕ → ℕ → ℕ
   number k i = beAt k s (at + i)
 
+  -- kind, algorithm, digits, period, next and d + 600, by which a check knows the candidates, and the key
+  abbrev pub track : Track
+  track =
+      record {
+        scheme = record { kind = byte 1; algorithm = byte 2; digits = byte 3 };
+        period = byte 4;
+        next = record { 0 = number 8 48 };
+        offset = record { 0 = number 2 56 };
+      }
+
+  abbrev pub key : List ℕ
+  key = take (byte 7) (drop (at + 16) s)
+
   module _ (clock : ℕ) where
     -- state 3, now at or after `locked at`, and now - `locked at` at least the wait
     abbrev pub waitRunOut : Bool
@@ -93,22 +108,23 @@ module _ (s : List ℕ) (at : ℕ) where
     abbrev pub acceptedStep : ℕ → List Change
     acceptedStep a = next (a + 1) ∷ errors 0 ∷ lastUse clock ∷ cond (eqb (byte 1) 0) (offset (a + 600 - clock / byte 4) ∷ []) []
 
-    -- what a code leaves besides a wait run out: used and wrong, at a login and elsewhere, then the successes; 0103, 0104 and 010a may leave state 3,
-    -- which zeroes `locked at`, 0 in every other state
-    abbrev pub besides : ℕ → ℕ → List Change
-    besides code a =
-        cond (oneOf code (0x8004 ∷ 0x8002 ∷ [])) (errors oneMore ∷ lockAtLimit)
+    -- what a code leaves besides a wait run out: nothing at a double press, used and wrong, at a login and elsewhere, then the successes; 0103, 0104 and 010a
+    -- may leave state 3, which zeroes `locked at`, 0 in every other state
+    abbrev pub besides : Bool → ℕ → ℕ → List Change
+    besides press code a =
+        cond (eqb code 0x8004 && press) []
+        (cond (oneOf code (0x8004 ∷ 0x8002 ∷ [])) (errors oneMore ∷ lockAtLimit)
         (cond (oneOf code (0x8104 ∷ 0x8102 ∷ 0x8105 ∷ [])) (errors oneMore ∷ [])
         (cond (oneOf code (0x0001 ∷ 0x0002 ∷ 0x0108 ∷ [])) (acceptedStep a)
         (cond (oneOf code (0x0101 ∷ 0x0105 ∷ [])) (state 2 ∷ acceptedStep a)
         (cond (eqb code 0x0103) (state 2 ∷ lockedAt 0 ∷ acceptedStep a)
         (cond (eqb code 0x0102) (state 4 ∷ [])
         (cond (eqb code 0x0104) (state 5 ∷ lockedAt 0 ∷ [])
-        (cond (eqb code 0x010a) (state 6 ∷ lockedAt 0 ∷ zeroKey ∷ []) [])))))))
+        (cond (eqb code 0x010a) (state 6 ∷ lockedAt 0 ∷ zeroKey ∷ []) []))))))))
 
-    -- by the code and the accepted step; 8409, 8404 to 8408, 8001 and 8101 leave only a wait run out
-    abbrev pub leftBy : ℕ → ℕ → List Change
-    leftBy code a = cond (oneOf code unchangedCodes) [] (ranOut ++ besides code a)
+    -- by the code, the accepted step, and whether it is a double press; 8409, 8404 to 8408, 8001 and 8101 leave only a wait run out
+    abbrev pub leftBy : Bool → ℕ → ℕ → List Change
+    leftBy press code a = cond (oneOf code unchangedCodes) [] (ranOut ++ besides press code a)
 
 -- ---- a load
 
@@ -137,18 +153,22 @@ rowOf (DeskCall.named request serial clock) s = findRow rowBytes s serial
 abbrev pub stepIn : Answer → ℕ
 stepIn answer = Option·getD (checkedOf answer) (record { 0 = 0 }, record { 0 = 0 }) .0 .0
 
-abbrev pub changesFor : DeskCall → List ℕ → ℕ → Answer → List Change
-changesFor (DeskCall.load p key) s at answer = cond (eqb (numberOf answer) 0x0140) (loaded p key) []
-changesFor (DeskCall.named request serial clock) s at answer = leftBy s at clock (numberOf answer) (stepIn answer)
+-- the request is a double press
+abbrev pub pressIn : PasswordRule → Request → List ℕ → ℕ → ℕ → Bool
+pressIn passwords request s at clock = pressed passwords (track s at) (key s at) clock request
+
+abbrev pub changesFor : PasswordRule → DeskCall → List ℕ → ℕ → Answer → List Change
+changesFor passwords (DeskCall.load p key) s at answer = cond (eqb (numberOf answer) 0x0140) (loaded p key) []
+changesFor passwords (DeskCall.named request serial clock) s at answer = leftBy s at clock (pressIn passwords request s at clock) (numberOf answer) (stepIn answer)
 
 -- the table after an answer; where there is no such row, it is unchanged
-abbrev pub leftIn : DeskCall → List ℕ → Answer → List ℕ
-leftIn call s answer = atPlace s (rowOf call s) (λ at. laid s at (changesFor call s at answer))
+abbrev pub leftIn : PasswordRule → DeskCall → List ℕ → Answer → List ℕ
+leftIn passwords call s answer = atPlace s (rowOf call s) (λ at. laid s at (changesFor passwords call s at answer))
 
 abbrev pub Demand1Bytes : Type 0
 Demand1Bytes =
     (passwords : PasswordRule) (call : DeskCall) (s : List ℕ) → AreBytes s
-    → deskAfter passwords call s .table ≡ leftIn call s (deskAfter passwords call s .answer)
+    → deskAfter passwords call s .table ≡ leftIn passwords call s (deskAfter passwords call s .answer)
 
 -- ---- which offsets may differ
 

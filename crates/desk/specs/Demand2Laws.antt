@@ -2,6 +2,7 @@
 use Prim.Native.Nat.{ℕ, suc, _+_, _≤_, _<_}
 use mathlib.Core.Path.{_≡_, refl, sym, ap, subst, _∙_}
 use mathlib.Core.Bool.{Bool, true, false, _&&_, not}
+use mathlib.Core.Logic.{_⊎_, inl, inr, ⊎-elim}
 use mathlib.Core.List.{List, [], _∷_}
 use mathlib.Core.Option.{Option, none, some, Option·getD}
 use native.Mathlib.Omega.{arith}
@@ -24,7 +25,7 @@ use Rattle.window.specs.Window.{candidate}
 use Rattle.window.specs.PasswordAt.{PasswordRule, hasBy}
 use Rattle.window.specs.Check.{freshHit}
 use Rattle.window.specs.Asked.{oneAsked, twoAsked}
-use Rattle.window.specs.Meaning.{Means, MeansFirst, MeansOnly, single-means, pair-means}
+use Rattle.window.specs.Meaning.{Means, MeansFirst, MeansOnly, found-used, single-means, pair-means}
 use Rattle.row.specs.declared.Row.{Row}
 use Rattle.row.specs.Row.{rowAt}
 use Rattle.row.specs.Table.{located}
@@ -107,24 +108,28 @@ module _ (l : Line) (f : Fails) (row : Row) (clock : ℕ) (c : Checking) (codes 
   says-accepted : (o : Outcome) → code o ≡ c .success → (a : Step) × (o ≡ Outcome.Accepted a)
   says-accepted (Outcome.Accepted a) e = (a, refl)
   says-accepted Outcome.Several e = absurd (omega arith)
+  says-accepted Outcome.Again e = absurd (omega arith)
   says-accepted Outcome.Used e = absurd (omega arith)
   says-accepted Outcome.Wrong e = absurd (omega arith)
 
   says-several : (o : Outcome) → code o ≡ refusalNumber (f .several) → o ≡ Outcome.Several
   says-several (Outcome.Accepted a) e = absurd (omega arith)
   says-several Outcome.Several e = refl
+  says-several Outcome.Again e = absurd (omega arith)
   says-several Outcome.Used e = absurd (omega arith)
   says-several Outcome.Wrong e = absurd (omega arith)
 
-  says-used : (o : Outcome) → code o ≡ c .used → o ≡ Outcome.Used
+  says-used : (o : Outcome) → code o ≡ c .used → (o ≡ Outcome.Again) ⊎ (o ≡ Outcome.Used)
   says-used (Outcome.Accepted a) e = absurd (omega arith)
   says-used Outcome.Several e = absurd (omega arith)
-  says-used Outcome.Used e = refl
+  says-used Outcome.Again e = inl refl
+  says-used Outcome.Used e = inr refl
   says-used Outcome.Wrong e = absurd (omega arith)
 
   says-wrong : (o : Outcome) → code o ≡ c .wrong → o ≡ Outcome.Wrong
   says-wrong (Outcome.Accepted a) e = absurd (omega arith)
   says-wrong Outcome.Several e = absurd (omega arith)
+  says-wrong Outcome.Again e = absurd (omega arith)
   says-wrong Outcome.Used e = absurd (omega arith)
   says-wrong Outcome.Wrong e = refl
 
@@ -133,6 +138,7 @@ module _ (l : Line) (f : Fails) (row : Row) (clock : ℕ) (c : Checking) (codes 
   says-one several (Outcome.Accepted a) m = rw (codes .success, eq-eqb (c .success) (c .success) refl)
   says-one several Outcome.Several m =
       rw (m refl, or-true (eqb (refusalNumber (f .several)) (c .wrong)), or-true (eqb (refusalNumber (f .several)) (c .used))) (or-true (eqb (refusalNumber (f .several)) (c .success)))
+  says-one several Outcome.Again m = rw (codes .used, eq-eqb (c .used) (c .used) refl) (or-true (eqb (c .used) (c .success)))
   says-one several Outcome.Used m = rw (codes .used, eq-eqb (c .used) (c .used) refl) (or-true (eqb (c .used) (c .success)))
   says-one several Outcome.Wrong m =
       rw (codes .wrong, eq-eqb (c .wrong) (c .wrong) refl, or-true (eqb (c .wrong) (c .used))) (or-true (eqb (c .wrong) (c .success)))
@@ -155,11 +161,14 @@ module _ (l : Line) (f : Fails) (row : Row) (clock : ℕ) (c : Checking) (codes 
       used-told : Exactly (code o ≡ c .used) (((x : ℕ) → next ≤ x → hit x ≡ false) × ((x : ℕ) × ((x < next) × (hit x ≡ true))))
       used-told = (
         λ e.
-            let u = means .used .0 (says-used o e) in
+            let u = found-used means .0 (says-used o e) in
             let x = u .1 .0 in
             let t = u .1 .1 in
             (λ y l. rw (le-leb next y l) at (u .0 y), (x, (ltb-true x next (and-left _ _ t), and-right (ltb x next) _ t))),
-        λ h. let x = h .1 in rw (means .used .1 (λ y. not-fresh y (h .0 y)) (x .0) (and-both (lt-ltb (x .0) next (x .1 .0)) (x .1 .1))) (codes .used),
+        λ h.
+            let x = h .1 in
+            ⊎-elim (λ (e : o ≡ Outcome.Again). rw e (codes .used)) (λ (e : o ≡ Outcome.Used). rw e (codes .used))
+            (found-used means .1 (λ y. not-fresh y (h .0 y)) (x .0) (and-both (lt-ltb (x .0) next (x .1 .0)) (x .1 .1))),
       )
 
       wrong-told : Exactly (code o ≡ c .wrong) ((x : ℕ) → hit x ≡ false)
@@ -184,6 +193,7 @@ module _ (l : Line) (f : Fails) (row : Row) (clock : ℕ) (c : Checking) (codes 
         by-outcome : (x : ℕ) → freshHit hit next x ≡ true → (p : Outcome) → o ≡ p → code o ≡ c .success
         by-outcome x t (Outcome.Accepted a) e = rw e (codes .success)
         by-outcome x t Outcome.Several e = absurd (means .several .0 e)
+        by-outcome x t Outcome.Again e = clash t (means .again .0 e .0 x)
         by-outcome x t Outcome.Used e = clash t (means .used .0 e .0 x)
         by-outcome x t Outcome.Wrong e = clash (matched t) (means .wrong .0 e x)
 

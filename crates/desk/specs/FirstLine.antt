@@ -79,18 +79,22 @@ expired r clock = leb (r .expiry .0) clock
 abbrev pub severalMatch : Outcome → Bool
 severalMatch (Outcome.Accepted a) = false
 severalMatch Outcome.Several = true
+severalMatch Outcome.Again = false
 severalMatch Outcome.Used = false
 severalMatch Outcome.Wrong = false
 
+-- presented again or not
 abbrev pub matchUsed : Outcome → Bool
 matchUsed (Outcome.Accepted a) = false
 matchUsed Outcome.Several = false
+matchUsed Outcome.Again = true
 matchUsed Outcome.Used = true
 matchUsed Outcome.Wrong = false
 
 abbrev pub nothingMatches : Outcome → Bool
 nothingMatches (Outcome.Accepted a) = false
 nothingMatches Outcome.Several = false
+nothingMatches Outcome.Again = false
 nothingMatches Outcome.Used = false
 nothingMatches Outcome.Wrong = true
 

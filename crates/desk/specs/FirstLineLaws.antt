@@ -43,10 +43,17 @@ module _ (l : Listed) (f : Fails) (w : Row) (clock : ℕ) (o : Outcome) where
 
   one-decides : (asked : Asked) → Decides asked (singleLines w clock (refusalNumber (f .several)) (refusalNumber (f .used)) (refusalNumber (f .wrong)) o)
   one-decides asked =
-      record { expired = λ t. rw t; accepted = λ t a e. rw (t, e); several = if-single asked (λ t e. rw (t, e)); used = λ t e. rw (t, e); wrong = λ t e. rw (t, e) }
+      record {
+        expired = λ t. rw t;
+        accepted = λ t a e. rw (t, e);
+        several = if-single asked (λ t e. rw (t, e));
+        again = λ t e. rw (t, e);
+        used = λ t e. rw (t, e);
+        wrong = λ t e. rw (t, e);
+      }
 
   two-decides : (size : Size) (p q : Password) → Decides (Asked.Two size p q) (pairLines w clock (refusalNumber (f .used)) (refusalNumber (f .wrong)) o)
-  two-decides size p q = record { expired = λ t. rw t; accepted = λ t a e. rw (t, e); several = tt; used = λ t e. rw (t, e); wrong = λ t e. rw (t, e) }
+  two-decides size p q = record { expired = λ t. rw t; accepted = λ t a e. rw (t, e); several = tt; again = λ t e. rw (t, e); used = λ t e. rw (t, e); wrong = λ t e. rw (t, e) }
 
 -- so do the lines of a request, whose passwords were typed well
 request-decides : (passwords : PasswordRule) (request : Request) (s : List ℕ) (at clock : ℕ) → requestOk request ≡ true

@@ -6,10 +6,12 @@ pub mod CallsLaws
 pub mod LoadLaws
 pub mod ServedLocalLaws
 pub mod BranchLaws
+pub mod Press
 pub mod Demand1
 pub mod Demand1Bytes
 pub mod Demand2
 pub mod No8106
+pub mod PressLaws
 pub mod Demand1Laws
 pub mod LaidLaws
 pub mod RowBytesLaws
@@ -20,6 +22,7 @@ pub mod No8106Laws
 pub mod CallLines
 pub mod CallTable
 pub mod SeveralTable
+pub mod PressTable
 pub mod ArgumentTable
 pub mod EventMarks
 pub mod FirstLine

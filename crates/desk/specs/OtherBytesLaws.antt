@@ -29,7 +29,7 @@ use Rattle.desk.specs.Desk.{deskAfter}
 use Rattle.desk.specs.LoadLaws.{loaded-key-short}
 use Rattle.desk.specs.BranchLaws.{load-holds, lineFor, Succeeds, named-answer-holds, by-refusal}
 use Rattle.desk.specs.Demand1BytesLaws.{demand-1-bytes}
-use Rattle.desk.specs.Demand1Bytes.{Change, laid, state, errors, next, lockedAt, lastUse, byte, waitRunOut, ranOut, oneMore, acceptedStep, besides, leftBy, loaded, rowOf, stepIn, changesFor, leftIn, Part, partsOf, inParts, OtherBytesStay}
+use Rattle.desk.specs.Demand1Bytes.{Change, laid, state, errors, next, lockedAt, lastUse, byte, waitRunOut, ranOut, oneMore, acceptedStep, besides, leftBy, loaded, rowOf, stepIn, pressIn, changesFor, leftIn, Part, partsOf, inParts, OtherBytesStay}
 use Rattle.desk.specs.LaidLaws.{end}
 
 -- a change lies in one of the parts
@@ -88,9 +88,9 @@ append-fitting parts (c ∷ cs) ds p q =
 
 -- ---- every code's changes lie in its parts
 
-module _ (s : List ℕ) (at clock : ℕ) where
+module _ (s : List ℕ) (at clock : ℕ) (press : Bool) where
   abbrev Covered : ℕ → ℕ → Type 0
-  Covered code a = allFitting (partsOf code) (leftBy s at clock code a) ≡ true
+  Covered code a = allFitting (partsOf code) (leftBy s at clock press code a) ≡ true
 
   -- a wait run out, and what comes besides
   waited-covered : (parts : List Part) (cs : List Change) → allFitting parts (state 2 ∷ errors 0 ∷ lockedAt 0 ∷ []) ≡ true → allFitting parts cs ≡ true
@@ -98,10 +98,13 @@ module _ (s : List ℕ) (at clock : ℕ) where
   waited-covered parts cs p q =
       append-fitting parts (ranOut s at clock) cs (either (λ (l : List Change). allFitting parts l ≡ true) (waitRunOut s at clock) p refl) q
 
-  login-fits : allFitting (partsOf 0x8004) (besides s at clock 0x8004 0) ≡ true
+  login-fits : allFitting (partsOf 0x8002) (besides s at clock press 0x8002 0) ≡ true
   unfolding beBytes
   login-fits =
-      either (λ (l : List Change). allFitting (partsOf 0x8004) (errors (oneMore s at clock) ∷ l) ≡ true) (leb (byte s at 5) (oneMore s at clock)) refl refl
+      either (λ (l : List Change). allFitting (partsOf 0x8002) (errors (oneMore s at clock) ∷ l) ≡ true) (leb (byte s at 5) (oneMore s at clock)) refl refl
+
+  used-fits : allFitting (partsOf 0x8004) (besides s at clock press 0x8004 0) ≡ true
+  used-fits = either (λ (l : List Change). allFitting (partsOf 0x8004) l ≡ true) press refl login-fits
 
   step-fits : (a : ℕ) → allFitting (partsOf 0x0001) (acceptedStep s at clock a) ≡ true
   unfolding beBytes
@@ -112,9 +115,10 @@ module _ (s : List ℕ) (at clock : ℕ) where
   unfolding beBytes
   refusal-covered =
       let kept = waited-covered (partsOf 0x8408) [] refl refl in
-      let login = waited-covered (partsOf 0x8004) (besides s at clock 0x8004 0) refl login-fits in
-      let counted = waited-covered (partsOf 0x8104) (besides s at clock 0x8104 0) refl refl in
-      by-refusal (λ f. Covered (refusalNumber f) 0) refl refl refl refl refl kept kept kept kept kept kept kept kept login counted login counted counted
+      let used = waited-covered (partsOf 0x8004) (besides s at clock press 0x8004 0) refl used-fits in
+      let wrong = waited-covered (partsOf 0x8002) (besides s at clock press 0x8002 0) refl login-fits in
+      let counted = waited-covered (partsOf 0x8104) (besides s at clock press 0x8104 0) refl refl in
+      by-refusal (λ f. Covered (refusalNumber f) 0) refl refl refl refl refl kept kept kept kept kept kept kept kept used counted wrong counted counted
 
   abbrev AnswerCovered : Answer → Type 0
   AnswerCovered answer = Covered (numberOf answer) (stepIn answer)
@@ -140,9 +144,9 @@ load-fits p key short = rw (length-zeroFilled key short)
 
 module _ (passwords : PasswordRule) (s : List ℕ) where
   changes-covered : (call : DeskCall) (at : ℕ)
-      → allFitting (partsOf (numberOf (deskAfter passwords call s .answer))) (changesFor call s at (deskAfter passwords call s .answer)) ≡ true
+      → allFitting (partsOf (numberOf (deskAfter passwords call s .answer))) (changesFor passwords call s at (deskAfter passwords call s .answer)) ≡ true
   changes-covered (DeskCall.load p key) at =
-      load-holds passwords s (λ x. allFitting (partsOf (numberOf (x .answer))) (changesFor (DeskCall.load p key) s at (x .answer)) ≡ true) p key
+      load-holds passwords s (λ x. allFitting (partsOf (numberOf (x .answer))) (changesFor passwords (DeskCall.load p key) s at (x .answer)) ≡ true) p key
       (record {
         bad = λ t. refl;
         taken = λ fit other e. refl;
@@ -150,16 +154,17 @@ module _ (passwords : PasswordRule) (s : List ℕ) where
         made = λ fit none by e. load-fits p key (loaded-key-short p key (fit .values));
       })
   changes-covered (DeskCall.named request serial clock) at =
-      named-answer-holds (AnswerCovered s at clock) (refusal-covered s at clock) passwords s request serial clock (λ by r. success-covered s at clock _ _ request)
+      let press = pressIn passwords request s at clock in
+      named-answer-holds (AnswerCovered s at clock press) (refusal-covered s at clock press) passwords s request serial clock (λ by r. success-covered s at clock press _ _ request)
 
   row-within : (call : DeskCall) (at : ℕ) → rowOf call s ≡ Place.At at → at + rowBytes ≤ length s
   row-within (DeskCall.load p key) at e = empty-within rowBytes s (omega arith) at e
   row-within (DeskCall.named request serial clock) at e = found-within rowBytes s serial (omega arith) at e
 
-  stays-in : (call : DeskCall) (place : Place) → rowOf call s ≡ place → Stays place (partsOf (numberOf (deskAfter passwords call s .answer))) s (leftIn call s (deskAfter passwords call s .answer))
+  stays-in : (call : DeskCall) (place : Place) → rowOf call s ≡ place → Stays place (partsOf (numberOf (deskAfter passwords call s .answer))) s (leftIn passwords call s (deskAfter passwords call s .answer))
   stays-in call (Place.At at) e =
       let answer = deskAfter passwords call s .answer in
-      rw e (laid-stays at (partsOf (numberOf answer)) s (changesFor call s at answer) (row-within call at e) (changes-covered call at))
+      rw e (laid-stays at (partsOf (numberOf answer)) s (changesFor passwords call s at answer) (row-within call at e) (changes-covered call at))
   stays-in call Place.Nowhere e = rw e (refl, λ i f. refl)
 
 pub other-bytes-stay : OtherBytesStay

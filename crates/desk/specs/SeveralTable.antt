@@ -76,8 +76,8 @@ threeLines =
     ∷ failedLogin (Request.login (digits 1)) 0x8002
     ∷ record {
       call = DeskCall.named (Request.login (digits 0)) 9 1059;
-      rows = rowWith 2 0 18 0 ∷ rowWith 2 0 19 0 ∷ rowWith 2 0 20 0 ∷ [];
-      cells = no 0x8001 ∷ cell 0x0001 (plus 19 ∷ plus 2 ∷ []) (next 20 ∷ offset 602 ∷ lastUse 1059 ∷ []) ∷ cell 0x8004 [] (errors 1 ∷ []) ∷ [];
+      rows = rowWith 2 0 18 0 ∷ rowWith 2 0 19 0 ∷ rowWith 2 0 20 0 ∷ rowWith 2 0 21 0 ∷ [];
+      cells = no 0x8001 ∷ cell 0x0001 (plus 19 ∷ plus 2 ∷ []) (next 20 ∷ offset 602 ∷ lastUse 1059 ∷ []) ∷ no 0x8004 ∷ cell 0x8004 [] (errors 1 ∷ []) ∷ [];
     }
     ∷ []
 

@@ -32,6 +32,7 @@ module _ (k : Track) (clock : ℕ) (size : Size) where
       let found = h a refl in
       record { fresh = found .0; below = candidate-bounded k clock size (a .0) (found .1); near = candidate-near k clock size (a .0) (found .1) }
   by-outcome Outcome.Several h = tt
+  by-outcome Outcome.Again h = tt
   by-outcome Outcome.Used h = tt
   by-outcome Outcome.Wrong h = tt
 

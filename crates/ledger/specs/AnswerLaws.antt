@@ -65,6 +65,7 @@ module _ (passwords : PasswordRule) (l : Loaded) (m : Marks) (y : Reading) (seri
     outcome-fits : (f : Fails) (o : Outcome) → IfAccepted (Acceptable (trackOf l m) clock) o → Fits request (judgedBy success (f .several) (f .used) (f .wrong) (trackOf l m) clock o)
     outcome-fits f (Outcome.Accepted a) good = success-fits (Content.Checked a (offsetWith (trackOf l m) clock (a .0))) (good .fresh)
     outcome-fits f Outcome.Several good = refusal-fits request (f .several)
+    outcome-fits f Outcome.Again good = refusal-fits request (f .used)
     outcome-fits f Outcome.Used good = refusal-fits request (f .used)
     outcome-fits f Outcome.Wrong good = refusal-fits request (f .wrong)
 

@@ -67,6 +67,7 @@ module _ (l : Line) (clock : ℕ) (h : clock < 2 ^ 40) (r w : Row) (first : Leav
     judging-leaves : (f : Fails) (o : Outcome) → IfAccepted (Acceptable (w .track) clock) o → DecisionLeaves (judging l f w clock o)
     judging-leaves f (Outcome.Accepted a) good = left-leaves (l .after) ok (accepted w clock (a .0)) (leaves-next first (accepted-leaves w (first .live) clock (a .0) h good))
     judging-leaves f Outcome.Several good = first
+    judging-leaves f Outcome.Again good = either (Leaves r) (f .forgives) first (leaves-next first (failed-leaves w (first .live) clock h (f .locks)))
     judging-leaves f Outcome.Used good = leaves-next first (failed-leaves w (first .live) clock h (f .locks))
     judging-leaves f Outcome.Wrong good = leaves-next first (failed-leaves w (first .live) clock h (f .locks))
 

@@ -13,7 +13,7 @@ use Rattle.window.specs.declared.Step.{Step}
 use Rattle.window.specs.declared.Offset.{Offset}
 use Rattle.window.specs.declared.Track.{Track}
 use Rattle.window.specs.declared.Outcome.{Outcome}
-use Rattle.window.specs.Window.{timeToken, farthest}
+use Rattle.window.specs.Window.{timeToken, farthest, candidate}
 use Rattle.window.specs.PasswordAt.{PasswordRule, hasBy}
 use Rattle.window.specs.TokenCheck.{singleCheck, pairCheck}
 use Rattle.row.specs.declared.Row.{Row}
@@ -82,6 +82,10 @@ unfoldable pub marks : List Entry → Marks
 marks [] = record { next = 0; offset = record { 0 = farthest }; used = 0 }
 marks (e ∷ older) = marked (checkedOf (e .answer)) (clockOf (e .call)) (marks older)
 
+-- the numbers that a check reads
+abbrev pub trackOf : Loaded → Marks → Track
+trackOf l m = record { scheme = l .particulars .scheme; period = l .particulars .period; next = record { 0 = m .next }; offset = m .offset }
+
 -- ---- state, errors and `locked at`: they change with each entry that names the serial, oldest first
 
 pub record Reading : Type 0 where
@@ -147,11 +151,32 @@ erred l request clock r =
 abbrev pub countedCodes : List ℕ
 countedCodes = 0x8004 ∷ 0x8104 ∷ 0x8002 ∷ 0x8102 ∷ 0x8105 ∷ []
 
--- other refusals change nothing more
-abbrev pub answered : Loaded → Request → ℕ → Answer → Reading → Reading
-answered l request clock (Answer.Success number content) r = succeeded request (Answer.Success number content) r
-answered l request clock (Answer.Refused refusal) r =
-    cond (oneOf (numberOf (Answer.Refused refusal)) countedCodes) (erred l request clock r) r
+-- 8004 to a double press adds none (document 02, Ask 4)
+abbrev pub counted : Bool → ℕ → Bool
+counted press code = oneOf code countedCodes && not (eqb code 0x8004 && press)
+
+-- a double press: a login's password is that of the candidate `next` - 1, by what the entries before it say
+module _ (passwords : PasswordRule) (l : Loaded) (m : Marks) where
+  abbrev pub lastHas : ℕ → List ℕ → List ℕ → Bool
+  lastHas clock challenge password =
+      ltb 0 (m .next) && (candidate (trackOf l m) clock Small (m .next - 1) && hasBy passwords (l .particulars .scheme) (l .key) challenge password (m .next - 1))
+
+  abbrev pub pressed : Request → ℕ → Bool
+  pressed (Request.login password) clock = lastHas clock [] password
+  pressed (Request.challengeLogin challenge password) clock = lastHas clock challenge password
+  pressed (Request.activate password following) clock = false
+  pressed Request.lock clock = false
+  pressed (Request.unlock password) clock = false
+  pressed Request.suspend clock = false
+  pressed (Request.resume password) clock = false
+  pressed (Request.sync choice password following) clock = false
+  pressed Request.void clock = false
+  pressed Request.query clock = false
+
+  -- other refusals change nothing more
+  abbrev pub answered : Request → ℕ → Answer → Reading → Reading
+  answered request clock (Answer.Success number content) r = succeeded request (Answer.Success number content) r
+  answered request clock (Answer.Refused refusal) r = cond (counted (pressed request clock) (numberOf (Answer.Refused refusal))) (erred l request clock r) r
 
 abbrev pub isQuery : Request → Bool
 isQuery (Request.login password) = false
@@ -169,7 +194,7 @@ isQuery Request.query = true
 abbrev pub entered : PasswordRule → Loaded → List Entry → DeskCall → Answer → Reading → Reading
 entered passwords l older (DeskCall.load p key) answer r = cond (eqb (numberOf answer) 0x0140) atLoading r
 entered passwords l older (DeskCall.named request serial clock) answer r =
-    cond (isQuery request || eqb (numberOf answer) 0x9005) r (answered l request clock answer (runOut l clock r))
+    cond (isQuery request || eqb (numberOf answer) 0x9005) r (answered passwords l (marks older) request clock answer (runOut l clock r))
 
 unfoldable pub reading : PasswordRule → Loaded → List Entry → Reading
 reading passwords l [] = atLoading
@@ -194,12 +219,9 @@ offsetWith k clock a = record { 0 = cond (eqb (k .scheme .kind) timeToken) (fart
 abbrev pub judgedBy : ℕ → Refusal → Refusal → Refusal → Track → ℕ → Outcome → Answer
 judgedBy success several used wrong k clock (Outcome.Accepted a) = Answer.Success success (Content.Checked a (offsetWith k clock (a .0)))
 judgedBy success several used wrong k clock Outcome.Several = Answer.Refused several
+judgedBy success several used wrong k clock Outcome.Again = Answer.Refused used
 judgedBy success several used wrong k clock Outcome.Used = Answer.Refused used
 judgedBy success several used wrong k clock Outcome.Wrong = Answer.Refused wrong
-
--- the numbers that a check reads
-abbrev pub trackOf : Loaded → Marks → Track
-trackOf l m = record { scheme = l .particulars .scheme; period = l .particulars .period; next = record { 0 = m .next }; offset = m .offset }
 
 -- a request to a loaded token, whose reading r has a wait run out by the clock
 module _ (passwords : PasswordRule) (l : Loaded) (m : Marks) (r : Reading) (clock : ℕ) where

@@ -1,6 +1,6 @@
 -- Part 5's table twice: a request's line in the ledger machine and the one that `token` has for it are the same, by tests that are computed.
 use Prim.Native.Nat.{ℕ, _≤_}
-use mathlib.Core.Path.{_≡_, refl, sym}
+use mathlib.Core.Path.{_≡_, refl, sym, _∙_}
 use mathlib.Core.Bool.{Bool, true, false, _&&_, not, cond}
 use mathlib.Core.List.{List, [], _∷_}
 use native.Mathlib.Omega.{arith}
@@ -8,7 +8,7 @@ use borrow.Author.Tests.{not-true}
 use lib.Dec.{eqb}
 use lib.ListN.{getD, replicate}
 use Rattle.words.specs.Lists.{oneOf}
-use Rattle.words.specs.BoolLaws.{by-test, clash, and-left, and-right}
+use Rattle.words.specs.BoolLaws.{by-test, clash, and-left, and-right, and-false}
 use Rattle.words.specs.Entries.{every, entry-rule}
 use Rattle.otp.specs.Typed.{passwordOk, asPassword}
 use Rattle.otp.specs.TypedLaws.{digits-back}
@@ -19,6 +19,7 @@ use Rattle.window.specs.declared.asked.Asked.{Asked}
 use Rattle.window.specs.declared.asked.Asked.the-variants.{One, Challenged, Two}
 use Rattle.window.specs.PasswordAt.{PasswordRule}
 use Rattle.window.specs.Asked.{outcomeOf}
+use Rattle.window.specs.Meaning.{single-again, single-used}
 use Rattle.row.specs.Row.{allOf}
 use Rattle.row.specs.RangeLaws.{test-passes}
 use Rattle.token.specs.declared.answers.Refusal.{Refusal}
@@ -32,7 +33,7 @@ use Rattle.token.specs.Lines.{void, atLogin, atSync, elsewhere, lineOf, allowed
 use Rattle.token.specs.Codes.{refusalNumber}
 use Rattle.token.specs.States.{IfAccepted}
 use Rattle.desk.specs.Requests.{Request, challengeGiven, choiceOk, requestOk, sizeOf, valued, challengeOf}
-use Rattle.ledger.specs.Ledger.{Loaded, Marks, Reading, follows, isLogin, countedCodes, isQuery, trackOf, single, pair, withCheck, withoutCheck, requested}
+use Rattle.ledger.specs.Ledger.{Loaded, Marks, Reading, follows, isLogin, countedCodes, counted, lastHas, pressed, isQuery, trackOf, single, pair, withCheck, withoutCheck, requested}
 use Rattle.ledger.specs.AcceptedLaws.{Acceptable, single-accepts, pair-accepts}
 
 -- what follows a line's success: the state, and whether the key is zeroed
@@ -105,12 +106,32 @@ errs f = not (eqb (refusalNumber f) 0x9005) && counts f
 abbrev pub quiet : Refusal → Type 0
 quiet f = (eqb (refusalNumber f) 0x9005 ≡ false) × (counts f ≡ false)
 
--- a used and a wrong password count, and lock at a login; one that several steps have does not
+-- used counts where it is no double press; 8004 to one does not; any other code does
+pub counts-unpressed : (code : ℕ) (press : Bool) → press ≡ false → oneOf code countedCodes ≡ true → counted press code ≡ true
+counts-unpressed code true e o = clash refl e
+counts-unpressed code false e o = rw o (simp and-false)
+
+pub press-uncounted : (code : ℕ) (press : Bool) → press ≡ true → eqb code 0x8004 ≡ true → counted press code ≡ false
+press-uncounted code false e s = clash e refl
+press-uncounted code true e s = by-code (oneOf code countedCodes) (eqb code 0x8004) s
+  where
+    by-code : (listed said : Bool) → said ≡ true → listed && not (said && true) ≡ false
+    by-code true true s = refl
+    by-code false true s = refl
+    by-code listed false s = clash s refl
+
+pub other-counts : (code : ℕ) (press : Bool) → eqb code 0x8004 ≡ false → oneOf code countedCodes ≡ true → counted press code ≡ true
+other-counts code press n o = rw (o, n)
+
+-- a used and a wrong password count, and lock at a login, which alone says 8004 and forgives a double press; one that several steps have does not count
 pub record Failing (request : Request) (f : Fails) : Type 0 where
   pub several : quiet (f .several)
   pub used : errs (f .used) ≡ true
   pub wrong : errs (f .wrong) ≡ true
   pub locks : f .locks ≡ isLogin request
+  pub forgives : f .forgives ≡ isLogin request
+  pub said : eqb (refusalNumber (f .used)) 0x8004 ≡ isLogin request
+  pub other : eqb (refusalNumber (f .wrong)) 0x8004 ≡ false
 
 -- ---- every request has a line
 
@@ -119,22 +140,36 @@ module _ (passwords : PasswordRule) (l : Loaded) (m : Marks) (r : Reading) (cloc
   pub record Checked (request : Request) (asked : Asked) (o : Outcome) : Type 0 where
     pub acceptable : IfAccepted (Acceptable (trackOf l m) clock) o
     pub same : requestOk request ≡ true → outcomeOf passwords (trackOf l m) clock (l .key) (challengeOf request) asked ≡ o
+    -- a used password is a double press, if it is a login's and presented again
+    pub again : o ≡ Outcome.Again → pressed passwords l m request clock ≡ isLogin request
+    pub used : o ≡ Outcome.Used → pressed passwords l m request clock ≡ false
 
-  one-checked : {request : Request} {size : Size} (password : List ℕ) → (requestOk request ≡ true → passwordOk password ≡ true)
-      → Checked request (One size (asPassword password)) (single passwords l m r clock size [] password)
-  one-checked {size = size} password ok = record { acceptable = single-accepts (trackOf l m) clock size _; same = λ t. rw (digits-back password (ok t)) }
+  login-used : (challenge password : List ℕ) → single passwords l m r clock Small challenge password ≡ Outcome.Used → lastHas passwords l m clock challenge password ≡ false
+  login-used challenge password e = single-used (trackOf l m) clock Small _ e
 
-  two-checked : {request : Request} {size : Size} (password following : List ℕ) → (requestOk request ≡ true → passwordOk password && passwordOk following ≡ true)
-      → Checked request (Two size (asPassword password) (asPassword following)) (pair passwords l m r clock size password following)
-  two-checked {size = size} password following ok =
-      record {
-        acceptable = pair-accepts (trackOf l m) clock size _ _;
-        same = λ t.
-            rw (
-              digits-back password (and-left _ _ (ok t)),
-              digits-back following (and-right (passwordOk password) _ (ok t)),
-            );
-      }
+  login-again : (challenge password : List ℕ) → single passwords l m r clock Small challenge password ≡ Outcome.Again → lastHas passwords l m clock challenge password ≡ true
+  login-again challenge password e = single-again (trackOf l m) clock Small _ e
+
+  -- no login is pressed
+  module _ {request : Request} {size : Size} (login : isLogin request ≡ false) (none : pressed passwords l m request clock ≡ false) where
+    one-checked : (password : List ℕ) → (requestOk request ≡ true → passwordOk password ≡ true)
+        → Checked request (One size (asPassword password)) (single passwords l m r clock size [] password)
+    one-checked password ok =
+        record { acceptable = single-accepts (trackOf l m) clock size _; same = λ t. rw (digits-back password (ok t)); again = λ e. none ∙ sym login; used = λ e. none }
+
+    two-checked : (password following : List ℕ) → (requestOk request ≡ true → passwordOk password && passwordOk following ≡ true)
+        → Checked request (Two size (asPassword password) (asPassword following)) (pair passwords l m r clock size password following)
+    two-checked password following ok =
+        record {
+          acceptable = pair-accepts (trackOf l m) clock size _ _;
+          same = λ t.
+              rw (
+                digits-back password (and-left _ _ (ok t)),
+                digits-back following (and-right (passwordOk password) _ (ok t)),
+              );
+          again = λ e. none ∙ sym login;
+          used = λ e. none;
+        }
 
   module _ (P : Request → Answer → Type 0)
       (checks : (request : Request) (states : List ℕ) (success : ℕ) (f : Fails) (asked : Asked) (o : Outcome)
@@ -144,18 +179,30 @@ module _ (passwords : PasswordRule) (l : Loaded) (m : Marks) (r : Reading) (cloc
     -- what holds of every line holds of every request
     pub by-line : (request : Request) → P request (requested passwords l m r clock request)
     unfolding requestOk
-    by-line (Request.login password) = checks _ (2 ∷ []) 0x0001 atLogin (One Small (asPassword password)) _ (search) (search) (one-checked password (λ t. t))
+    by-line (Request.login password) =
+        checks _ (2 ∷ []) 0x0001 atLogin (One Small (asPassword password)) (single passwords l m r clock Small [] password) (search) (search)
+        (record {
+          acceptable = single-accepts (trackOf l m) clock Small _;
+          same = λ t. rw (digits-back password t);
+          again = login-again [] password;
+          used = login-used [] password;
+        })
     by-line (Request.challengeLogin challenge password) =
         checks _ (2 ∷ []) 0x0002 atLogin (Challenged Small (asPassword password)) (single passwords l m r clock Small challenge password) (search) (search)
-        (record { acceptable = single-accepts (trackOf l m) clock Small _; same = λ t. rw (digits-back password (and-right (challengeGiven challenge) _ t)) })
+        (record {
+          acceptable = single-accepts (trackOf l m) clock Small _;
+          same = λ t. rw (digits-back password (and-right (challengeGiven challenge) _ t));
+          again = login-again challenge password;
+          used = login-used challenge password;
+        })
     by-line (Request.activate password following) =
-        checks _ (1 ∷ []) 0x0101 elsewhere (Two Large (asPassword password) (asPassword following)) _ (search) (search) (two-checked password following (λ t. t))
+        checks _ (1 ∷ []) 0x0101 elsewhere (Two Large (asPassword password) (asPassword following)) _ (search) (search) (two-checked refl refl password following (λ t. t))
     by-line Request.lock = changes _ (2 ∷ []) 0x0102 (search)
-    by-line (Request.unlock password) = checks _ (3 ∷ 4 ∷ []) 0x0103 elsewhere (One Small (asPassword password)) _ (search) (search) (one-checked password (λ t. t))
+    by-line (Request.unlock password) = checks _ (3 ∷ 4 ∷ []) 0x0103 elsewhere (One Small (asPassword password)) _ (search) (search) (one-checked refl refl password (λ t. t))
     by-line Request.suspend = changes _ (2 ∷ 3 ∷ 4 ∷ []) 0x0104 (search)
-    by-line (Request.resume password) = checks _ (5 ∷ []) 0x0105 elsewhere (One Small (asPassword password)) _ (search) (search) (one-checked password (λ t. t))
+    by-line (Request.resume password) = checks _ (5 ∷ []) 0x0105 elsewhere (One Small (asPassword password)) _ (search) (search) (one-checked refl refl password (λ t. t))
     by-line (Request.sync choice password following) =
         checks _ (2 ∷ 3 ∷ 4 ∷ []) 0x0108 atSync (Two (sizeOf choice) (asPassword password) (asPassword following)) _ (search) (search)
-        (two-checked password following (λ t. and-right (choiceOk choice) _ t))
+        (two-checked refl refl password following (λ t. and-right (choiceOk choice) _ t))
     by-line Request.void = changes _ (1 ∷ 2 ∷ 3 ∷ 4 ∷ 5 ∷ []) 0x010a (search)
     by-line Request.query = tells

@@ -7,13 +7,15 @@ use native.Mathlib.Omega.{arith}
 use borrow.Author.Tests.{not-true, ne-eqb}
 use lib.Dec.{eqb, leb}
 use Rattle.words.specs.Lists.{oneOf}
-use Rattle.words.specs.BoolLaws.{and-left, and-right, either}
+use Rattle.words.specs.BoolLaws.{and-left, and-right, by-test, either}
 use Rattle.window.specs.declared.Seconds.{Seconds}
 use Rattle.window.specs.declared.Step.{Step}
 use Rattle.window.specs.declared.Offset.{Offset}
 use Rattle.window.specs.declared.Track.{Track}
 use Rattle.window.specs.declared.Outcome.{Outcome}
+use Rattle.window.specs.declared.asked.Asked.{Asked}
 use Rattle.window.specs.Window.{timeToken, farthest}
+use Rattle.window.specs.PasswordAt.{PasswordRule}
 use Rattle.row.specs.declared.Row.{Row}
 use Rattle.token.specs.declared.answers.Content.{Content}
 use Rattle.token.specs.declared.answers.Refusal.{Refusal}
@@ -27,16 +29,15 @@ use Rattle.token.specs.declared.deciding.Left.{Left}
 use Rattle.token.specs.declared.deciding.Decision.{Decision}
 use Rattle.token.specs.Lines.{lineOf, allowed, stateRefusal}
 use Rattle.token.specs.Codes.{refusalNumber}
-use Rattle.token.specs.States.{waitOver, waited, withState, offsetAfter, accepted, failed, IfAccepted}
+use Rattle.token.specs.States.{waitOver, waited, withState, offsetAfter, accepted, failed, repeated}
 use Rattle.token.specs.Deciding.{refusing, leftBy, changing, judging, timely}
 use Rattle.desk.specs.Requests.{Request, valued}
 use Rattle.desk.specs.BranchLaws.{by-state}
-use Rattle.ledger.specs.Ledger.{Loaded, Marks, Reading, runOut, isLogin, needing, offsetWith, judgedBy, trackOf, rowOf, keyOf}
+use Rattle.ledger.specs.Ledger.{Loaded, Marks, Reading, runOut, isLogin, counted, pressed, needing, offsetWith, judgedBy, trackOf, rowOf, keyOf}
 use Rattle.ledger.specs.Tokens.{Token, kept}
-use Rattle.ledger.specs.AcceptedLaws.{Acceptable}
 use Rattle.ledger.specs.HistoryTokens.{tokenWith}
 use Rattle.ledger.specs.EntryRow.{Agrees}
-use Rattle.ledger.specs.LineLaws.{stateBy, wipes, Listed, made-alike, alive, leads-to-void, errs, quiet, Failing}
+use Rattle.ledger.specs.LineLaws.{stateBy, wipes, Listed, made-alike, alive, leads-to-void, counts, errs, quiet, counts-unpressed, press-uncounted, other-counts, Failing, Checked}
 
 -- ---- a row and its readings, in either case
 
@@ -64,7 +65,7 @@ waited-reads l x m clock =
 
 -- ---- the parts of a request, on a row with the readings y, whose key is the token's
 
-module _ (l : Loaded) (y : Reading) (m : Marks) (clock : ℕ) (t : Token) (keyed : t .key ≡ keyOf l y) where
+module _ (passwords : PasswordRule) (l : Loaded) (y : Reading) (m : Marks) (clock : ℕ) (t : Token) (keyed : t .key ≡ keyOf l y) where
   stored-token : (r : Reading) (n : Marks) → eqb (y .state) 6 ≡ eqb (r .state) 6 → kept t (Left.Stored (rowOf l r n) Key.Kept) ≡ tokenWith l r n
   unfolding keyOf
   stored-token r n e = rw (keyed, e)
@@ -89,7 +90,7 @@ module _ (l : Loaded) (y : Reading) (m : Marks) (clock : ℕ) (t : Token) (keyed
 
   module _ (request : Request) where
     abbrev Alike : Decision → Answer → Type 0
-    Alike d a = Agrees l y m clock request t d a
+    Alike d a = Agrees passwords l y m clock request t d a
 
     either-agrees : {c d : Decision} {a b : Answer} (test : Bool) → (test ≡ true → Alike c a) → (test ≡ false → Alike d b) → Alike (cond test c d) (cond test a b)
     either-agrees true p q = p refl
@@ -150,30 +151,51 @@ module _ (l : Loaded) (y : Reading) (m : Marks) (clock : ℕ) (t : Token) (keyed
                 token = rw (o, e) (rw (listed .leads (y .state)) at (followed r n refl));
               }
 
-          failed-agrees : (g : Refusal) → errs g ≡ true → Alike (refusing g (failed here clock (f .locks))) (Answer.Refused g)
+          abbrev press : Bool
+          press = pressed passwords l m request clock
+
+          unlike-9005 : (g : Refusal) → errs g ≡ true → eqb (refusalNumber g) 0x9005 ≡ false
+          unlike-9005 g t = not-true (eqb (refusalNumber g) 0x9005) (and-left _ _ t)
+
+          counts-listed : (g : Refusal) → errs g ≡ true → counts g ≡ true
+          counts-listed g t = and-right (not (eqb (refusalNumber g) 0x9005)) _ t
+
+          -- a refusal that adds an error
+          failed-agrees : (g : Refusal) → errs g ≡ true → counted press (refusalNumber g) ≡ true → Alike (refusing g (failed here clock (f .locks))) (Answer.Refused g)
           unfolding failed rowOf
-          failed-agrees g t =
-              let n = not-true (eqb (refusalNumber g) 0x9005) (and-left _ _ t) in
-              let o = and-right (not (eqb (refusalNumber g) 0x9005)) _ t in
+          failed-agrees g t o =
               let errors = min 255 (y .errors + 1) in
               let test = isLogin request && leb (l .particulars .limit) errors in
               let locking : Reading = record { state = 3; errors = errors; «locked_at» = clock } in
               let counting : Reading = record { state = y .state; errors = errors; «locked_at» = y .«locked_at» } in
               record {
                 answer = refl;
-                numbered = n;
+                numbered = unlike-9005 g t;
                 token =
                     rw (o, failing .locks, cond-inside (λ r. rowOf l r m) test locking counting)
                     (stored-token (cond test locking counting) m (lives ∙ sym (either (λ (r : Reading). eqb (r .state) 6 ≡ false) test refl lives)));
               }
 
-          outcome-agrees : (o : Outcome) → IfAccepted (Acceptable (trackOf l m) clock) o → Alike (judging line f here clock o) (judgedBy success (f .several) (f .used) (f .wrong) (trackOf l m) clock o)
-          outcome-agrees (Outcome.Accepted a) good = accepted-agrees a (good .fresh)
-          outcome-agrees Outcome.Several good = still-agrees (f .several) (failing .several)
-          outcome-agrees Outcome.Used good = failed-agrees (f .used) (failing .used)
-          outcome-agrees Outcome.Wrong good = failed-agrees (f .wrong) (failing .wrong)
+          used-agrees : press ≡ false → Alike (refusing (f .used) (failed here clock (f .locks))) (Answer.Refused (f .used))
+          used-agrees p = failed-agrees (f .used) (failing .used) (counts-unpressed (refusalNumber (f .used)) press p (counts-listed (f .used) (failing .used)))
 
-          pub check-agrees : (o : Outcome) → IfAccepted (Acceptable (trackOf l m) clock) o
+          -- presented again: a login forgives it
+          again-agrees : press ≡ isLogin request → Alike (refusing (f .used) (repeated here clock (f .forgives) (f .locks))) (Answer.Refused (f .used))
+          again-agrees p =
+              by-test (isLogin request)
+              (λ b.
+              let o = press-uncounted (refusalNumber (f .used)) press (p ∙ b) (failing .said ∙ b) in
+              rw (failing .forgives ∙ b) (record { answer = refl; numbered = unlike-9005 (f .used) (failing .used); token = rw o (stored-token y m refl) }))
+              (λ b. rw (failing .forgives ∙ b) (used-agrees (p ∙ b)))
+
+          outcome-agrees : {asked : Asked} (o : Outcome) → Checked passwords l m y clock request asked o → Alike (judging line f here clock o) (judgedBy success (f .several) (f .used) (f .wrong) (trackOf l m) clock o)
+          outcome-agrees (Outcome.Accepted a) checked = accepted-agrees a (checked .acceptable .fresh)
+          outcome-agrees Outcome.Several checked = still-agrees (f .several) (failing .several)
+          outcome-agrees Outcome.Again checked = again-agrees (checked .again refl)
+          outcome-agrees Outcome.Used checked = used-agrees (checked .used refl)
+          outcome-agrees Outcome.Wrong checked = failed-agrees (f .wrong) (failing .wrong) (other-counts (refusalNumber (f .wrong)) press (failing .other) (counts-listed (f .wrong) (failing .wrong)))
+
+          pub check-agrees : {asked : Asked} (o : Outcome) → Checked passwords l m y clock request asked o
               → Alike (timely line f here clock o) (cond (leb (l .particulars .expiry .0) clock) (Answer.Refused Refusal.Expired) (judgedBy success (f .several) (f .used) (f .wrong) (trackOf l m) clock o))
           unfolding rowOf
-          check-agrees o good = either-agrees (leb (l .particulars .expiry .0) clock) (λ t. still-agrees Refusal.Expired (refl, refl)) (λ t. outcome-agrees o good)
+          check-agrees o checked = either-agrees (leb (l .particulars .expiry .0) clock) (λ t. still-agrees Refusal.Expired (refl, refl)) (λ t. outcome-agrees o checked)

@@ -19,7 +19,7 @@ use Rattle.token.specs.declared.lines.Way.the-variants.{Changes, Checks}
 use Rattle.token.specs.Deciding.{deciding, decided}
 use Rattle.desk.specs.Requests.{Request, DeskCall, requestOk}
 use Rattle.desk.specs.Desk.{checkedOf}
-use Rattle.ledger.specs.Ledger.{Entry, Loaded, Marks, Reading, marked, runOut, isQuery, entered, withCheck, withoutCheck, requested, rowOf, keyOf}
+use Rattle.ledger.specs.Ledger.{Entry, Loaded, Marks, Reading, marks, marked, runOut, isQuery, entered, withCheck, withoutCheck, requested, rowOf, keyOf}
 use Rattle.ledger.specs.Tokens.{Token, decidedOn, kept}
 use Rattle.ledger.specs.HistoryTokens.{tokenWith}
 use Rattle.ledger.specs.EntryRow.{Agrees}
@@ -46,7 +46,10 @@ module _ (l : Loaded) (clock : ℕ) (x : Reading) where
 
 -- ---- a request to the token of a load with its readings
 
-module _ (passwords : PasswordRule) (l : Loaded) (older : List Entry) (x : Reading) (m : Marks) (serial clock : ℕ) (low : 0 < x .state) (high : x .state ≤ 6) where
+module _ (passwords : PasswordRule) (l : Loaded) (older : List Entry) (x : Reading) (serial clock : ℕ) (low : 0 < x .state) (high : x .state ≤ 6) where
+  abbrev m : Marks
+  m = marks older
+
   abbrev y : Reading
   y = runOut l clock x
 
@@ -66,7 +69,7 @@ module _ (passwords : PasswordRule) (l : Loaded) (older : List Entry) (x : Readi
   unfolding keyOf rowOf
   secret f = rw (run-out-void l clock x ∙ f) (take-at (l .key) (replicate (keyBytes - length (l .key)) 0) (length (l .key)) refl)
 
-  agreed : {request : Request} {a : Answer} → isQuery request ≡ false → Agrees l y m clock request t (decidedOn passwords request clock t) a → Enters request a
+  agreed : {request : Request} {a : Answer} → isQuery request ≡ false → Agrees passwords l y m clock request t (decidedOn passwords request clock t) a → Enters request a
   agreed asked agrees = record { answer = agrees .answer; token = rw (asked, agrees .numbered) (agrees .token) }
 
   changes-enters : (request : Request) (states : List ℕ) (success : ℕ) → Listed request states success Changes → requestOk request ≡ true
@@ -76,8 +79,8 @@ module _ (passwords : PasswordRule) (l : Loaded) (older : List Entry) (x : Readi
       let upper = run-out-high l clock x high in
       agreed (listed .asked)
       (rw (waited-reads l x m clock, listed .does)
-      (needing-agrees l y m clock t keyed request listed upper (run-out-low l clock x low)
-      (λ made. changing-agrees l y m clock t keyed request listed upper made)))
+      (needing-agrees passwords l y m clock t keyed request listed upper (run-out-low l clock x low)
+      (λ made. changing-agrees passwords l y m clock t keyed request listed upper made)))
 
   checks-enters : (request : Request) (states : List ℕ) (success : ℕ) (f : Fails) (asked : Asked) (o : Outcome) → Listed request states success (Checks asked f) → Failing request f
       → Checked passwords l m y clock request asked o → requestOk request ≡ true → Enters request (withCheck passwords l m y clock states success (f .several) (f .used) (f .wrong) o)
@@ -86,8 +89,8 @@ module _ (passwords : PasswordRule) (l : Loaded) (older : List Entry) (x : Readi
       let upper = run-out-high l clock x high in
       agreed (listed .asked)
       (rw (waited-reads l x m clock, listed .does)
-      (needing-agrees l y m clock t keyed request listed upper (run-out-low l clock x low)
-      (λ made. rw (secret (alive listed (y .state) upper made), checked .same ok) (check-agrees l y m clock t keyed request listed upper made f failing o (checked .acceptable)))))
+      (needing-agrees passwords l y m clock t keyed request listed upper (run-out-low l clock x low)
+      (λ made. rw (secret (alive listed (y .state) upper made), checked .same ok) (check-agrees passwords l y m clock t keyed request listed upper made f failing o checked))))
 
   query-enters : requestOk Request.query ≡ true → Enters Request.query (requested passwords l m y clock Request.query)
   unfolding decided deciding rowOf

@@ -60,6 +60,6 @@ unfolding reading marks rowOf
 request-token passwords l history request serial clock a e ok good q =
     let older = entriesOf (l .particulars .serial) history in
     let high = highest-state (tokenOf passwords history l .row) (good .live) in
-    let law = request-enters passwords l older (reading passwords l older) (marks older) serial clock (good .live .taken) high request ok in
+    let law = request-enters passwords l older (reading passwords l older) serial clock (good .live .taken) high request ok in
     let entry : Entry = record { call = DeskCall.named request serial clock; answer = a } in
     rw (named-entries (l .particulars .serial) entry history (eq-eqb serial (l .particulars .serial) e), q) (law .answer, law .token)

@@ -22,7 +22,7 @@ use Rattle.token.specs.declared.deciding.Key.{Key}
 use Rattle.token.specs.declared.deciding.Left.{Left}
 use Rattle.token.specs.declared.deciding.Decision.{Decision}
 use Rattle.token.specs.Lines.{void, lineOf, allowed, stateRefusal}
-use Rattle.token.specs.States.{waited, withState, offsetAfter, accepted, failed}
+use Rattle.token.specs.States.{waited, withState, offsetAfter, accepted, failed, repeated}
 
 -- a refusal keeps a wait run out
 abbrev pub refusing : Refusal → Row → Decision
@@ -45,11 +45,12 @@ telling l r =
       left = Left.Same;
     }
 
--- the check's outcome decides: success, several, used, wrong; several is no error
+-- the check's outcome decides: success, several, again, used, wrong; several is no error
 abbrev pub judging : Line → Fails → Row → ℕ → Outcome → Decision
 judging l f r clock (Outcome.Accepted a) =
     record { answer = Answer.Success (l .success) (Content.Checked a (offsetAfter (r .track) clock (a .0))); left = leftBy (l .after) (accepted r clock (a .0)) }
 judging l f r clock Outcome.Several = refusing (f .several) r
+judging l f r clock Outcome.Again = refusing (f .used) (repeated r clock (f .forgives) (f .locks))
 judging l f r clock Outcome.Used = refusing (f .used) (failed r clock (f .locks))
 judging l f r clock Outcome.Wrong = refusing (f .wrong) (failed r clock (f .locks))
 

@@ -43,6 +43,7 @@ pub checked-near : (passwords : PasswordRule) (k : Track) (clock : ℕ) (key cha
 checked-near passwords k clock key challenge asked (Outcome.Accepted a) good e =
     candidate-accepted k clock (windowSize asked) (a .0) good (asked-accepts-candidate passwords k clock key challenge asked (sym e))
 checked-near passwords k clock key challenge asked Outcome.Several good e = tt
+checked-near passwords k clock key challenge asked Outcome.Again good e = tt
 checked-near passwords k clock key challenge asked Outcome.Used good e = tt
 checked-near passwords k clock key challenge asked Outcome.Wrong good e = tt
 

@@ -37,15 +37,16 @@ suspended = 5
 abbrev pub void : ℕ
 void = 6
 
--- what a password that several fresh steps have is called (document 02, Ask 5), which no pair is, a used one and a wrong one, and whether errors lock the token
+-- what a password that several fresh steps have is called (document 02, Ask 5), which no pair is, a used one and a wrong one; whether errors lock the token,
+-- and whether a double press is none (document 02, Ask 4)
 abbrev pub atLogin : Fails
-atLogin = record { several = Refusal.NextAtLogin; used = Refusal.UsedAtLogin; wrong = Refusal.WrongAtLogin; locks = true }
+atLogin = record { several = Refusal.NextAtLogin; used = Refusal.UsedAtLogin; wrong = Refusal.WrongAtLogin; locks = true; forgives = true }
 
 abbrev pub atSync : Fails
-atSync = record { several = Refusal.NextWanted; used = Refusal.Used; wrong = Refusal.WrongAtSync; locks = false }
+atSync = record { several = Refusal.NextWanted; used = Refusal.Used; wrong = Refusal.WrongAtSync; locks = false; forgives = false }
 
 abbrev pub elsewhere : Fails
-elsewhere = record { several = Refusal.NextWanted; used = Refusal.Used; wrong = Refusal.Wrong; locks = false }
+elsewhere = record { several = Refusal.NextWanted; used = Refusal.Used; wrong = Refusal.Wrong; locks = false; forgives = false }
 
 abbrev pub listed : Needs → Way → ℕ → After → Line
 listed needs way success after = record { needs = needs; way = way; success = success; after = after }

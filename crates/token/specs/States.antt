@@ -65,6 +65,10 @@ failed r clock locks =
     (changed r lockedByErrors (errorsAfter r) (r .track) (record { 0 = clock }) (r .«last_use»))
     (changed r (r .state) (errorsAfter r) (r .track) (r .«locked_at») (r .«last_use»))
 
+-- the last used password presented again: an error too, unless it is forgiven (document 02, Ask 4)
+abbrev pub repeated : Row → ℕ → Bool → Bool → Row
+repeated r clock forgives locks = cond forgives r (failed r clock locks)
+
 -- ---- what the code asks of an accepted step
 
 -- its number fits, and for a time token it lies at most 600 from the clock's
@@ -76,5 +80,6 @@ pub record Near (k : Track) (clock a : ℕ) : Type 0 where
 abbrev pub IfAccepted : (ℕ → Type 0) → Outcome → Type 0
 IfAccepted P (Outcome.Accepted a) = P (a .0)
 IfAccepted P Outcome.Several = Unit {0}
+IfAccepted P Outcome.Again = Unit {0}
 IfAccepted P Outcome.Used = Unit {0}
 IfAccepted P Outcome.Wrong = Unit {0}

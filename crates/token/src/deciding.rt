@@ -14,6 +14,7 @@ use crate::lines::state_refusal;
 use crate::states::accepted;
 use crate::states::failed;
 use crate::states::offset_after;
+use crate::states::repeated;
 use crate::states::waited;
 use crate::states::with_state;
 use row::Row;
@@ -92,7 +93,7 @@ fn telling(line: Line, row: Row) -> Decision
     }
 }
 
-// The check's outcome decides: success, several, used, wrong. A password that several fresh steps have is no error: the next one will tell.
+// The check's outcome decides: success, several, again, used, wrong. A password that several fresh steps have is no error: the next one will tell.
 fn judging(line: Line, fails: Fails, row: Row, clock: Seconds, outcome: Outcome) -> Decision
     requires { ⌜ Sound (row .track) (clock .0) ⌝ }
     requires { ⌜ IfAccepted (Near (row .track) (clock .0)) outcome ⌝ }
@@ -111,6 +112,10 @@ fn judging(line: Line, fails: Fails, row: Row, clock: Seconds, outcome: Outcome)
         Outcome::Several => {
             let refusal = fails.several;
             refusing(refusal, row)
+        }
+        Outcome::Again => {
+            let refusal = fails.used;
+            refusing(refusal, repeated(row, clock, fails.forgives, fails.locks))
         }
         Outcome::Used => {
             let refusal = fails.used;

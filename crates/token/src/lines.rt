@@ -27,12 +27,14 @@ pub enum Request {
     Query,
 }
 
-// What a password that several fresh steps have is called, which no pair is, a used one and a wrong one, and whether errors lock the token.
+// What a password that several fresh steps have is called, which no pair is, a used one and a wrong one, whether errors lock the token, and whether a
+// double press is none.
 pub struct Fails {
     pub several: Refusal,
     pub used: Refusal,
     pub wrong: Refusal,
     pub locks: bool,
+    pub forgives: bool,
 }
 
 const AT_LOGIN: Fails = Fails {
@@ -40,6 +42,7 @@ const AT_LOGIN: Fails = Fails {
     used: Refusal::UsedAtLogin,
     wrong: Refusal::WrongAtLogin,
     locks: true,
+    forgives: true,
 };
 
 const AT_SYNC: Fails = Fails {
@@ -47,6 +50,7 @@ const AT_SYNC: Fails = Fails {
     used: Refusal::Used,
     wrong: Refusal::WrongAtSync,
     locks: false,
+    forgives: false,
 };
 
 const ELSEWHERE: Fails = Fails {
@@ -54,6 +58,7 @@ const ELSEWHERE: Fails = Fails {
     used: Refusal::Used,
     wrong: Refusal::Wrong,
     locks: false,
+    forgives: false,
 };
 
 // The states that a request needs: any, or from one to another.

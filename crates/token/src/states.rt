@@ -11,7 +11,7 @@ use window::Track;
 use window::step_at;
 ghost use mathlib.Core.Path.{_≡_};
 ghost use Rattle.window.specs.Window.{Sound};
-ghost use Rattle.token.specs.States.{changed, waitOver, waited, lockedAfter, withState, Near, offsetAfter, trackAfter, accepted, errorsAfter, failed};
+ghost use Rattle.token.specs.States.{changed, waitOver, waited, lockedAfter, withState, Near, offsetAfter, trackAfter, accepted, errorsAfter, failed, repeated};
 
 const MOST_ERRORS: u8 = 255;
 
@@ -146,4 +146,14 @@ pub(crate) fn failed(row: Row, clock: Seconds, locks: bool) -> Row
         return changed(row, LOCKED_BY_ERRORS, errors, track, clock, last_use);
     }
     changed(row, row.state, errors, track, locked_at, last_use)
+}
+
+// The row once the last used password was presented again: an error too, unless it is forgiven.
+pub(crate) fn repeated(row: Row, clock: Seconds, forgives: bool, locks: bool) -> Row
+    ensures { λ r. ⌜ r ≡ repeated row (clock .0) forgives locks ⌝ }
+{
+    if forgives {
+        return row;
+    }
+    failed(row, clock, locks)
 }

@@ -14,7 +14,7 @@ use Rattle.window.specs.declared.Step.{Step}
 use Rattle.window.specs.declared.Track.{Track}
 use Rattle.window.specs.declared.Swept.{Swept}
 use Rattle.window.specs.declared.Outcome.{Outcome}
-use Rattle.window.specs.declared.Outcome.the-variants.{Accepted, Several, Used, Wrong}
+use Rattle.window.specs.declared.Outcome.the-variants.{Accepted, Several, Again, Used, Wrong}
 use Rattle.window.specs.declared.goal.Goal.{Goal}
 use Rattle.window.specs.declared.asked.Asked.{Asked}
 use Rattle.window.specs.Window.{candidate, beyond}
@@ -101,6 +101,7 @@ module _ (k : Track) (clock : ℕ) (key : List ℕ) (size : Size) where
         one-at-most : (o : Outcome) → onlyOne (acceptances o) o ≡ o
         one-at-most (Accepted a) = refl
         one-at-most Several = refl
+        one-at-most Again = refl
         one-at-most Used = refl
         one-at-most Wrong = refl
 

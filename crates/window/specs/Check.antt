@@ -1,10 +1,10 @@
--- The single and the pair check (document 01, Part 3; document 02, Ask 5), over any predicate "step s has this password".
+-- The single and the pair check (document 01, Part 3; document 02, Asks 4 and 5), over any predicate "step s has this password".
 use Prim.Native.Nat.{ℕ, zero, suc, _+_}
 use mathlib.Core.Bool.{Bool, cond, _&&_}
 use mathlib.Core.Option.{Option, none, some}
-use lib.Dec.{leb, ltb}
+use lib.Dec.{eqb, leb, ltb}
 use Rattle.window.specs.declared.Outcome.{Outcome}
-use Rattle.window.specs.declared.Outcome.the-variants.{Accepted, Several, Used, Wrong}
+use Rattle.window.specs.declared.Outcome.the-variants.{Accepted, Several, Again, Used, Wrong}
 
 abbrev pub orElse : Option ℕ → Option ℕ → Option ℕ
 orElse none b = b
@@ -27,14 +27,19 @@ freshHit hit next s = leb next s && hit s
 abbrev pub usedHit : (ℕ → Bool) → ℕ → ℕ → Bool
 usedHit hit next s = ltb s next && hit s
 
-abbrev pub judged : Option ℕ → Option ℕ → Outcome
-judged (some s) used = Accepted (record { 0 = s })
-judged none (some s) = Used
-judged none none = Wrong
+-- the step `next` - 1 is the one that was accepted last
+abbrev pub lastHit : (ℕ → Bool) → ℕ → ℕ → Bool
+lastHit hit next s = eqb (s + 1) next && hit s
 
--- the smallest fresh step that matches is accepted; else used, if one that is not fresh matches; otherwise wrong
+abbrev pub judged : Option ℕ → Option ℕ → Option ℕ → Outcome
+judged (some s) last used = Accepted (record { 0 = s })
+judged none (some s) used = Again
+judged none none (some s) = Used
+judged none none none = Wrong
+
+-- the smallest fresh step that matches is accepted; else used, if one that is not fresh matches, and presented again, if `next` - 1 does; otherwise wrong
 unfoldable pub checked : (ℕ → Bool) → ℕ → ℕ → Outcome
-checked hit next n = judged (smallest (freshHit hit next) n) (smallest (usedHit hit next) n)
+checked hit next n = judged (smallest (freshHit hit next) n) (smallest (lastHit hit next) n) (smallest (usedHit hit next) n)
 
 -- one password that two or more fresh steps have is not accepted
 abbrev pub onlyOne : ℕ → Outcome → Outcome
@@ -52,5 +57,6 @@ pairHit candidate first second s = (candidate s && candidate (s + 1)) && (first 
 abbrev pub settled : ℕ → Outcome → Outcome
 settled ahead (Accepted s) = Accepted (record { 0 = s .0 + ahead })
 settled ahead Several = Several
+settled ahead Again = Again
 settled ahead Used = Used
 settled ahead Wrong = Wrong

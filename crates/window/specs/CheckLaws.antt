@@ -1,18 +1,17 @@
 -- The smallest number that passes a test, and the check step by step upward.
 use Prim.Native.Nat.{ℕ, zero, suc, _+_, _-_, _≤_, _<_, min, zero-le}
-use mathlib.Core.Path.{_≡_, refl, sym, ap, ap₂, _∙_}
-use mathlib.Core.Bool.{Bool, true, false, cond, _&&_}
+use mathlib.Core.Path.{_≡_, refl, sym, ap, _∙_}
+use mathlib.Core.Bool.{Bool, true, false, cond, _&&_, _||_}
 use mathlib.Core.Logic.{_⊎_, inl, inr, ⊎-elim}
 use mathlib.Core.Option.{Option, none, some}
 use native.Mathlib.Nat.{add-zero, not-suc-le-zero, le-refl, le-trans, le-suc}
-use native.Mathlib.Numerals.{add-one}
 use native.Mathlib.Omega.{arith}
 use borrow.Author.Tests.{le-leb, lt-leb, lt-ltb, le-ltb}
-use lib.Dec.{leb, ltb}
-use Rattle.words.specs.BoolLaws.{and-false, impossible}
+use lib.Dec.{eqb, leb, ltb}
+use Rattle.words.specs.BoolLaws.{and-true, and-false, impossible}
 use Rattle.window.specs.declared.Outcome.{Outcome}
-use Rattle.window.specs.declared.Outcome.the-variants.{Accepted, Several, Used, Wrong}
-use Rattle.window.specs.Check.{orElse, smallest, freshHit, usedHit, judged, checked, settled}
+use Rattle.window.specs.declared.Outcome.the-variants.{Accepted, Several, Again, Used, Wrong}
+use Rattle.window.specs.Check.{orElse, smallest, freshHit, usedHit, lastHit, judged, checked, settled}
 use Rattle.window.specs.Sweep.{unaccepted}
 
 -- no number below n passes the test
@@ -75,15 +74,20 @@ module _ {A : Type 0} (f : ℕ → A) (test : ℕ → Bool) (stays : (n : ℕ) �
 -- ---- the check, a step higher
 
 module _ (hit : ℕ → Bool) (next : ℕ) where
-  checked-suc : (s : ℕ) → checked hit next (s + 1)
-      ≡ judged (orElse (smallest (freshHit hit next) s) (cond (freshHit hit next s) (some s) none)) (orElse (smallest (usedHit hit next) s) (cond (usedHit hit next s) (some s) none))
+  -- the smallest below the next number that passes the test
+  abbrev upTo : (ℕ → Bool) → ℕ → Option ℕ
+  upTo test s = orElse (smallest test s) (cond (test s) (some s) none)
+
+  checked-suc : (s : ℕ) → checked hit next (s + 1) ≡ judged (upTo (freshHit hit next) s) (upTo (lastHit hit next) s) (upTo (usedHit hit next) s)
   unfolding checked smallest
-  checked-suc s = rw add-one
+  checked-suc s = let e : s + 1 ≡ suc s = omega arith in ap (checked hit next) e
 
   -- a step that is no hit changes nothing
   pub checked-miss : (s : ℕ) → hit s ≡ false → checked hit next (s + 1) ≡ checked hit next s
   unfolding checked
-  checked-miss s e = checked-suc s ∙ rw (e, and-false (leb next s), and-false (ltb s next)) (ap₂ judged (or-none (smallest (freshHit hit next) s)) (or-none (smallest (usedHit hit next) s)))
+  checked-miss s e =
+      checked-suc s
+      ∙ rw (e, and-false (leb next s), and-false (eqb (s + 1) next), and-false (ltb s next), or-none (smallest (freshHit hit next) s), or-none (smallest (lastHit hit next) s), or-none (smallest (usedHit hit next) s))
     where
       or-none : (o : Option ℕ) → orElse o none ≡ o
       or-none none = refl
@@ -94,27 +98,38 @@ module _ (hit : ℕ → Bool) (next : ℕ) where
   checked-none = refl
 
   -- a hit on a used step, and on a fresh one, where nothing was accepted before
-  module _ (s : ℕ) (u : Bool) (e : checked hit next s ≡ unaccepted u) (t : hit s ≡ true) where
-    none-fresh : (f o : Option ℕ) (u : Bool) → judged f o ≡ unaccepted u → f ≡ none
-    none-fresh none o u e = refl
-    none-fresh (some x) o true e = impossible (cc)
-    none-fresh (some x) o false e = impossible (cc)
+  module _ (s : ℕ) (a u : Bool) (e : checked hit next s ≡ unaccepted a u) (t : hit s ≡ true) where
+    none-fresh : (f l o : Option ℕ) (a u : Bool) → judged f l o ≡ unaccepted a u → f ≡ none
+    none-fresh none l o a u e = refl
+    none-fresh (some x) l o true u e = impossible (cc)
+    none-fresh (some x) l o false true e = impossible (cc)
+    none-fresh (some x) l o false false e = impossible (cc)
 
-    pub checked-used : s < next → checked hit next (s + 1) ≡ Used
+    no-fresh : smallest (freshHit hit next) s ≡ none
+    unfolding checked
+    no-fresh = none-fresh (smallest (freshHit hit next) s) (smallest (lastHit hit next) s) (smallest (usedHit hit next) s) a u e
+
+    pub checked-used : s < next → checked hit next (s + 1) ≡ unaccepted (a || eqb (s + 1) next) true
     unfolding checked
     checked-used l =
         checked-suc s
-        ∙ rw (t, lt-leb next s l, lt-ltb s next l, none-fresh (smallest (freshHit hit next) s) (smallest (usedHit hit next) s) u e) (told (smallest (usedHit hit next) s))
+        ∙ rw (t, lt-leb next s l, lt-ltb s next l, and-true (eqb (s + 1) next), no-fresh)
+        (told (smallest (lastHit hit next) s) (smallest (usedHit hit next) s) a u (eqb (s + 1) next) (rw no-fresh at e))
       where
-        told : (o : Option ℕ) → judged none (orElse o (some s)) ≡ Used
-        told none = refl
-        told (some x) = refl
+        told : (f o : Option ℕ) (a u last : Bool) → judged none f o ≡ unaccepted a u → judged none (orElse f (cond last (some s) none)) (orElse o (some s)) ≡ unaccepted (a || last) true
+        told (some x) o true u last e = refl
+        told (some x) o false true last e = impossible (cc)
+        told (some x) o false false last e = impossible (cc)
+        told none none true u last e = impossible (cc)
+        told none (some x) true u last e = impossible (cc)
+        told none none false u true e = refl
+        told none none false u false e = refl
+        told none (some x) false u true e = refl
+        told none (some x) false u false e = refl
 
     pub checked-fresh : next ≤ s → checked hit next (s + 1) ≡ Accepted (record { 0 = s })
     unfolding checked
-    checked-fresh l =
-        checked-suc s
-        ∙ rw (t, le-leb next s l, le-ltb s next l, none-fresh (smallest (freshHit hit next) s) (smallest (usedHit hit next) s) u e)
+    checked-fresh l = checked-suc s ∙ rw (t, le-leb next s l, le-ltb s next l, no-fresh)
 
   -- what was accepted stays
   pub accepted-stays : (s n k : ℕ) → checked hit next n ≡ Accepted (record { 0 = s }) → checked hit next (n + k) ≡ Accepted (record { 0 = s })
@@ -122,12 +137,13 @@ module _ (hit : ℕ → Bool) (next : ℕ) where
   accepted-stays s n zero e = rw (add-zero n) e
   accepted-stays s n (suc k) e =
       let q : n + suc k ≡ n + k + 1 = omega arith in
-      rw q (checked-suc (n + k) ∙ told (smallest (freshHit hit next) (n + k)) (smallest (usedHit hit next) (n + k)) _ _ (accepted-stays s n k e))
+      rw q (checked-suc (n + k) ∙ told (smallest (freshHit hit next) (n + k)) (smallest (lastHit hit next) (n + k)) (smallest (usedHit hit next) (n + k)) _ _ _ (accepted-stays s n k e))
     where
-      told : (f o x y : Option ℕ) → judged f o ≡ Accepted (record { 0 = s }) → judged (orElse f x) (orElse o y) ≡ Accepted (record { 0 = s })
-      told (some v) o x y e = e
-      told none none x y e = impossible (cc)
-      told none (some v) x y e = impossible (cc)
+      told : (f l o x y z : Option ℕ) → judged f l o ≡ Accepted (record { 0 = s }) → judged (orElse f x) (orElse l y) (orElse o z) ≡ Accepted (record { 0 = s })
+      told (some v) l o x y z e = e
+      told none (some v) o x y z e = impossible (cc)
+      told none none none x y z e = impossible (cc)
+      told none none (some v) x y z e = impossible (cc)
 
 -- tests that agree find the same
 smallest-agree : (test other : ℕ → Bool) → ((s : ℕ) → test s ≡ other s) → (n : ℕ) → smallest test n ≡ smallest other n
@@ -138,13 +154,16 @@ smallest-agree test other h (suc n) = rw (smallest-agree test other h n, h n)
 pub checked-agree : (hit other : ℕ → Bool) (next n : ℕ) → ((s : ℕ) → hit s ≡ other s) → checked hit next n ≡ checked other next n
 unfolding checked
 checked-agree hit other next n h =
-    ap₂ judged
-    (smallest-agree (freshHit hit next) (freshHit other next) (λ s. ap (λ (b : Bool). leb next s && b) (h s)) n)
-    (smallest-agree (usedHit hit next) (usedHit other next) (λ s. ap (λ (b : Bool). ltb s next && b) (h s)) n)
+    rw (
+      smallest-agree (freshHit hit next) (freshHit other next) (λ s. ap (λ (b : Bool). leb next s && b) (h s)) n,
+      smallest-agree (lastHit hit next) (lastHit other next) (λ s. ap (λ (b : Bool). eqb (s + 1) next && b) (h s)) n,
+      smallest-agree (usedHit hit next) (usedHit other next) (λ s. ap (λ (b : Bool). ltb s next && b) (h s)) n,
+    )
 
 -- what is accepted at the hit itself
 pub settled-none : (o : Outcome) → settled 0 o ≡ o
 settled-none (Accepted s) = rw (add-zero (s .0))
 settled-none Several = refl
+settled-none Again = refl
 settled-none Used = refl
 settled-none Wrong = refl

@@ -1,4 +1,4 @@
--- What a check finds, how many passwords it computes and how many fresh steps match (document 02, Asks 2 and 5), as a table with one proof: time tokens at T = 100.
+-- What a check finds, how many passwords it computes and how many fresh steps match (document 02, Asks 2, 4 and 5), as a table with one proof: time tokens at T = 100.
 -- A count that definition and code share, and get wrong, shows here.
 use Prim.Native.Nat.{ℕ, _%_, _^_}
 use mathlib.Core.Path.{_≡_, refl}
@@ -12,7 +12,7 @@ use Rattle.otp.specs.Typed.{digitsOf}
 use Rattle.window.specs.declared.Size.the-variants.{Small, Medium, Large}
 use Rattle.window.specs.declared.Track.{Track}
 use Rattle.window.specs.declared.Outcome.{Outcome}
-use Rattle.window.specs.declared.Outcome.the-variants.{Accepted, Several, Used, Wrong}
+use Rattle.window.specs.declared.Outcome.the-variants.{Accepted, Several, Again, Used, Wrong}
 use Rattle.window.specs.declared.asked.Asked.{Asked}
 use Rattle.window.specs.Window.{timeCandidate, candidate, beyond}
 use Rattle.window.specs.Check.{smallest, howMany, checked}
@@ -45,8 +45,9 @@ accepted s = Accepted (record { 0 = s })
 abbrev pub inNumbers : Outcome → List ℕ
 inNumbers (Accepted a) = 0 ∷ a .0 ∷ []
 inNumbers Several = 1 ∷ []
-inNumbers Used = 2 ∷ []
-inNumbers Wrong = 3 ∷ []
+inNumbers Again = 2 ∷ []
+inNumbers Used = 3 ∷ []
+inNumbers Wrong = 4 ∷ []
 
 pub record Case : Type 0 where
   pub modulus : ℕ
@@ -84,7 +85,15 @@ cases =
     ∷ case 2 (tokenWith 99 600) (Asked.One Small (typed 0)) Several 5 2
     ∷ case 2 (tokenWith 101 600) (Asked.One Small (typed 0)) (accepted 102) 5 1
     ∷ case 3 (tokenWith 99 600) (Asked.One Small (typed 2)) (accepted 101) 5 1
-    ∷ case 2 (tokenWith 103 600) (Asked.One Small (typed 0)) Used 5 0
+    -- the step before the first unused one has it, with older ones or alone; it has not, and an older one has; it is no candidate, or there is none
+    ∷ case own (tokenWith 101 600) (Asked.One Small (typed 100)) Again 5 0
+    ∷ case own (tokenWith 99 600) (Asked.Challenged Small (typed 98)) Again 5 0
+    ∷ case 2 (tokenWith 103 600) (Asked.One Small (typed 0)) Again 5 0
+    ∷ case 2 (tokenWith 104 600) (Asked.One Small (typed 0)) Used 5 0
+    ∷ case own (tokenWith 103 600) (Asked.Challenged Small (typed 101)) Used 5 0
+    ∷ case own (tokenWith 200 600) (Asked.One Small (typed 100)) Used 5 0
+    ∷ case own (tokenWith 98 600) (Asked.One Small (typed 97)) Wrong 5 0
+    ∷ case own (tokenWith 0 600) (Asked.One Small (typed 0)) Wrong 5 0
     -- another count of digits
     ∷ case own (tokenWith 0 600) (Asked.One Small (longer 98)) Wrong 0 0
     ∷ case own (tokenWith 0 600) (Asked.Challenged Small (longer 98)) Wrong 0 0
@@ -93,12 +102,13 @@ cases =
     -- d 600: 698 to 700; d -600: none
     ∷ case own (tokenWith 0 1200) (Asked.One Small (typed 700)) (accepted 700) 3 1
     ∷ case own (tokenWith 0 0) (Asked.One Small (typed 0)) Wrong 0 0
-    -- a pair up to its second step, whatever pairs follow; used and wrong ones
+    -- a pair up to its second step, whatever pairs follow; used, again and wrong ones
     ∷ case own (tokenWith 0 600) (Asked.Two Medium (typed 100) (typed 101)) (accepted 101) 7 1
     ∷ case own (tokenWith 0 600) (Asked.Two Large (typed 90) (typed 91)) (accepted 91) 2 1
     ∷ case own (tokenWith 0 600) (Asked.Two Large (typed 109) (typed 110)) (accepted 110) 21 1
     ∷ case 3 (tokenWith 0 600) (Asked.Two Medium (typed 2) (typed 0)) (accepted 96) 2 1
     ∷ case own (tokenWith 101 600) (Asked.Two Medium (typed 99) (typed 100)) Used 11 0
+    ∷ case own (tokenWith 101 600) (Asked.Two Medium (typed 100) (typed 101)) Again 11 0
     ∷ case own (tokenWith 0 600) (Asked.Two Large (typed 110) (typed 111)) Wrong 21 0
     ∷ []
 

@@ -11,7 +11,7 @@ use Rattle.window.specs.declared.Size.{Size}
 use Rattle.window.specs.declared.Step.{Step}
 use Rattle.window.specs.declared.Track.{Track}
 use Rattle.window.specs.declared.Outcome.{Outcome}
-use Rattle.window.specs.declared.Outcome.the-variants.{Accepted, Several, Used, Wrong}
+use Rattle.window.specs.declared.Outcome.the-variants.{Accepted, Several, Again, Used, Wrong}
 use Rattle.window.specs.declared.asked.Asked.{Asked}
 use Rattle.window.specs.Window.{candidate, beyond}
 use Rattle.window.specs.WindowLaws.{end-below}
@@ -56,6 +56,7 @@ module _ (passwords : PasswordRule) (k : Track) (clock : ℕ) (key challenge : L
     all-swept : (pair : Bool) (o : Outcome) → ((a : Step) → o ≡ Accepted a → ⊥) → sweptTo pair (beyond k clock) o ≡ beyond k clock
     all-swept pair (Accepted a) h = absurd (h a refl)
     all-swept pair Several h = refl
+    all-swept pair Again h = refl
     all-swept pair Used h = refl
     all-swept pair Wrong h = refl
 
@@ -99,11 +100,15 @@ module _ (passwords : PasswordRule) (k : Track) (clock : ℕ) (key challenge : L
       → FreshCounted (pairHit (candidate k clock size) first second) (k .next .0) (beyond k clock) true (pairCheck k clock size first second) (acceptances (pairCheck k clock size first second))
   two-counted size first second = by-outcome (pairCheck k clock size first second) (pair-means k clock size first second .several .0)
     where
+      unmatched : {o : Outcome} → (o ≡ Several → ⊥) → ((a : Step) → o ≡ Accepted a → ⊥) → FreshCounted (pairHit (candidate k clock size) first second) (k .next .0) (beyond k clock) true o 0
+      unmatched h n = record { single = λ p. impossible (cc); accepted = (λ a e. absurd (n a e), λ e. absurd (omega arith)); several = (λ e. absurd (h e), λ l. absurd (omega arith)) }
+
       by-outcome : (o : Outcome) → (o ≡ Several → ⊥) → FreshCounted (pairHit (candidate k clock size) first second) (k .next .0) (beyond k clock) true o (acceptances o)
       by-outcome (Accepted a) h = record { single = λ p. impossible (cc); accepted = (λ b e. refl, λ e. (a, refl)); several = (λ e. impossible (cc), λ l. absurd (omega arith)) }
       by-outcome Several h = absurd (h refl)
-      by-outcome Used h = record { single = λ p. impossible (cc); accepted = (λ b e. impossible (cc), λ e. absurd (omega arith)); several = (λ e. impossible (cc), λ l. absurd (omega arith)) }
-      by-outcome Wrong h = record { single = λ p. impossible (cc); accepted = (λ b e. impossible (cc), λ e. absurd (omega arith)); several = (λ e. impossible (cc), λ l. absurd (omega arith)) }
+      by-outcome Again h = unmatched h (λ a e. impossible (cc))
+      by-outcome Used h = unmatched h (λ a e. impossible (cc))
+      by-outcome Wrong h = unmatched h (λ a e. impossible (cc))
 
   pub fresh-counted : (asked : Asked) → FreshCounted (askedHit asked) (k .next .0) (beyond k clock) (isPair asked)
       (outcomeOf passwords k clock key challenge asked) (freshOf passwords k clock key challenge asked)

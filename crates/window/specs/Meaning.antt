@@ -1,23 +1,23 @@
--- What the checks of a token mean, in words a reader knows: accepted, several, used and wrong, each exactly when it should be.
-use Prim.Native.Nat.{ℕ, _+_, _≤_, _<_}
+-- What the checks of a token mean, in words a reader knows: accepted, several, again, used and wrong, each exactly when it should be.
+use Prim.Native.Nat.{ℕ, _+_, _-_, _≤_, _<_}
 use mathlib.Core.Path.{_≡_, refl, sym, ap, _∙_}
 use mathlib.Core.Bool.{Bool, true, false, _&&_}
-use mathlib.Core.Logic.{⊎-elim}
+use mathlib.Core.Logic.{_⊎_, inl, inr, ⊎-elim}
 use mathlib.Core.Option.{Option, none, some}
 use native.Mathlib.Nat.{add-zero, le-trans}
 use native.Mathlib.Omega.{arith}
-use borrow.Author.Tests.{eq-eqb, leb-true, leb-false, lt-ltb, le-leb, ltb-true}
-use lib.Dec.{leb, ltb}
+use borrow.Author.Tests.{eq-eqb, eqb-true, leb-true, leb-false, lt-ltb, le-leb, ltb-true}
+use lib.Dec.{eqb, leb, ltb}
 use Rattle.words.specs.BoolLaws.{and-left, and-right, by-test, either-by, and-both, clash, impossible}
 use Rattle.window.specs.declared.Size.{Size}
 use Rattle.window.specs.declared.Step.{Step}
 use Rattle.window.specs.declared.Track.{Track}
 use Rattle.window.specs.declared.Outcome.{Outcome}
-use Rattle.window.specs.declared.Outcome.the-variants.{Accepted, Several, Used, Wrong}
+use Rattle.window.specs.declared.Outcome.the-variants.{Accepted, Several, Again, Used, Wrong}
 use Rattle.window.specs.Window.{timeToken, stepAt, distance, timeWidth, farthest, timeCandidate, candidate, beyond}
 use Rattle.window.specs.Range.{firstStep, endStep}
 use Rattle.window.specs.WindowLaws.{candidates-are-range, end-below}
-use Rattle.window.specs.Check.{smallest, howMany, freshHit, usedHit, judged, checked, onlyOne, singleHit, pairHit, settled}
+use Rattle.window.specs.Check.{smallest, howMany, freshHit, usedHit, lastHit, judged, checked, onlyOne, singleHit, pairHit, settled}
 use Rattle.window.specs.CheckLaws.{NoneBelow, Found, found, missing, smallest-found, order, settled-none}
 use Rattle.window.specs.ManyLaws.{many-one, one-many, many-two, two-many}
 use Rattle.window.specs.TokenCheck.{freshMatches, singleCheck, pairCheck}
@@ -46,12 +46,15 @@ pub record Only (test : ℕ → Bool) (s : ℕ) : Type 0 where
 abbrev pub Two : (ℕ → Bool) → Type 0
 Two test = (r : ℕ) × ((s : ℕ) × ((r < s) × ((test r ≡ true) × (test s ≡ true))))
 
--- what an outcome says of the hits, exactly: the hit that is chosen is accepted, or the step ahead of it; several, if that is a reason to accept none; used, if none is fresh and one is not; wrong, if there is none
+-- what an outcome says of the hits, exactly: the hit that is chosen is accepted, or the step ahead of it; several, if that is a reason to accept none;
+-- if none is fresh, again, if the step before the first unused one is a hit, and used, if it is none and another one is; wrong, if there is no hit
 pub record Means (Chosen : ℕ → Type 0) (Many : Type 0) (hit : ℕ → Bool) (ahead next : ℕ) (o : Outcome) : Type 0 where
   pub accepted : ((a : Step) → o ≡ Accepted a → (s : ℕ) × ((a .0 ≡ s + ahead) × Chosen s)) × ((s : ℕ) → Chosen s → o ≡ Accepted (record { 0 = s + ahead }))
   pub several : (o ≡ Several → Many) × (Many → o ≡ Several)
-  pub used : (o ≡ Used → Never (freshHit hit next) × ((s : ℕ) × (usedHit hit next s ≡ true)))
-      × (Never (freshHit hit next) → (s : ℕ) → usedHit hit next s ≡ true → o ≡ Used)
+  pub again : (o ≡ Again → Never (freshHit hit next) × ((s : ℕ) × (lastHit hit next s ≡ true)))
+      × (Never (freshHit hit next) → (s : ℕ) → lastHit hit next s ≡ true → o ≡ Again)
+  pub used : (o ≡ Used → Never (freshHit hit next) × (Never (lastHit hit next) × ((s : ℕ) × (usedHit hit next s ≡ true))))
+      × (Never (freshHit hit next) → Never (lastHit hit next) → (s : ℕ) → usedHit hit next s ≡ true → o ≡ Used)
   pub wrong : (o ≡ Wrong → Never hit) × (Never hit → o ≡ Wrong)
 
 -- of a pair the smallest fresh hit is chosen, of one password the only one
@@ -67,6 +70,7 @@ MeansOnly hit ahead next = Means (Only (freshHit hit next)) (Two (freshHit hit n
 abbrev at : Outcome → ℕ
 at (Accepted s) = s .0
 at Several = 0
+at Again = 0
 at Used = 0
 at Wrong = 0
 
@@ -74,8 +78,9 @@ module _ (hit : ℕ → Bool) (ahead next n : ℕ) (bounded : (r : ℕ) → hit 
   fresh-bounded : (r : ℕ) → freshHit hit next r ≡ true → r < n
   fresh-bounded r t = bounded r (and-right (leb next r) _ t)
 
-  none-fresh : NoneBelow (freshHit hit next) n → Never (freshHit hit next)
-  none-fresh h r = by-test (freshHit hit next r) (λ t. clash t (h r (fresh-bounded r t))) (λ t. t)
+  -- fresh hits, or those of the step before the first unused one: none below the bound is none at all
+  none-at-all : (test : ℕ → Bool) → NoneBelow (λ r. test r && hit r) n → Never (λ r. test r && hit r)
+  none-at-all test h r = by-test (test r && hit r) (λ t. clash t (h r (bounded r (and-right (test r) _ t)))) (λ t. t)
 
   none-hit : NoneBelow (freshHit hit next) n → NoneBelow (usedHit hit next) n → Never hit
   none-hit f u r =
@@ -111,7 +116,8 @@ module _ (hit : ℕ → Bool) (ahead next n : ℕ) (bounded : (r : ℕ) → hit 
         record {
           accepted = (λ a e. (s, (sym (ap at e), f)), λ r g. let e = choice .unique s r f g in rw e);
           several = (λ e. impossible (cc), λ m. absurd (choice .apart s f m));
-          used = (λ e. impossible (cc), λ h r u. clash t (h s));
+          again = (λ e. impossible (cc), λ h r u. clash t (h s));
+          used = (λ e. impossible (cc), λ h i r u. clash t (h s));
           wrong = (λ e. impossible (cc), λ h. clash (and-right (leb next s) _ t) (h s));
         }
 
@@ -121,16 +127,28 @@ module _ (hit : ℕ → Bool) (ahead next n : ℕ) (bounded : (r : ℕ) → hit 
         record {
           accepted = (λ a e. impossible (cc), λ r g. absurd (choice .apart r g m));
           several = (λ e. m, λ i. refl);
-          used = (λ e. impossible (cc), λ h r u. clash (s .1) (h (s .0)));
+          again = (λ e. impossible (cc), λ h r u. clash (s .1) (h (s .0)));
+          used = (λ e. impossible (cc), λ h i r u. clash (s .1) (h (s .0)));
           wrong = (λ e. impossible (cc), λ h. clash (and-right (leb next (s .0)) _ (s .1)) (h (s .0)));
         }
 
-    used-means : (s : ℕ) → Never (freshHit hit next) → usedHit hit next s ≡ true → Means Chosen Many hit ahead next Used
-    used-means s h u =
+    again-means : (s : ℕ) → Never (freshHit hit next) → lastHit hit next s ≡ true → Means Chosen Many hit ahead next Again
+    again-means s h u =
         record {
           accepted = (λ a e. impossible (cc), λ r g. clash (choice .hits r g) (h r));
           several = (λ e. impossible (cc), λ m. let r = choice .many m in clash (r .1) (h (r .0)));
-          used = (λ e. (h, (s, u)), λ i r v. refl);
+          again = (λ e. (h, (s, u)), λ i r v. refl);
+          used = (λ e. impossible (cc), λ i j r v. clash u (j s));
+          wrong = (λ e. impossible (cc), λ i. clash (and-right (eqb (s + 1) next) _ u) (i s));
+        }
+
+    used-means : (s : ℕ) → Never (freshHit hit next) → Never (lastHit hit next) → usedHit hit next s ≡ true → Means Chosen Many hit ahead next Used
+    used-means s h l u =
+        record {
+          accepted = (λ a e. impossible (cc), λ r g. clash (choice .hits r g) (h r));
+          several = (λ e. impossible (cc), λ m. let r = choice .many m in clash (r .1) (h (r .0)));
+          again = (λ e. impossible (cc), λ i r v. clash v (l r));
+          used = (λ e. (h, (l, (s, u))), λ i j r v. refl);
           wrong = (λ e. impossible (cc), λ i. clash (and-right (ltb s next) _ u) (i s));
         }
 
@@ -139,19 +157,25 @@ module _ (hit : ℕ → Bool) (ahead next n : ℕ) (bounded : (r : ℕ) → hit 
         record {
           accepted = (λ a e. impossible (cc), λ r g. clash (and-right (leb next r) _ (choice .hits r g)) (h r));
           several = (λ e. impossible (cc), λ m. let r = choice .many m in clash (and-right (leb next (r .0)) _ (r .1)) (h (r .0)));
-          used = (λ e. impossible (cc), λ i r u. clash (and-right (ltb r next) _ u) (h r));
+          again = (λ e. impossible (cc), λ i r u. clash (and-right (eqb (r + 1) next) _ u) (h r));
+          used = (λ e. impossible (cc), λ i j r u. clash (and-right (ltb r next) _ u) (h r));
           wrong = (λ e. h, λ i. refl);
         }
 
     -- what the check finds, where the smallest fresh hit is the chosen one
     found-means : ((s : ℕ) → First (freshHit hit next) s → Chosen s) → Means Chosen Many hit ahead next (settled ahead (checked hit next n))
     unfolding checked
-    found-means choose = by-found (smallest (freshHit hit next) n) (smallest-found (freshHit hit next) n) (smallest (usedHit hit next) n) (smallest-found (usedHit hit next) n)
+    found-means choose =
+        by-found (smallest (freshHit hit next) n) (smallest-found (freshHit hit next) n)
+        (smallest (lastHit hit next) n) (smallest-found (lastHit hit next) n)
+        (smallest (usedHit hit next) n) (smallest-found (usedHit hit next) n)
       where
-        by-found : (o : Option ℕ) → Found (freshHit hit next) n o → (u : Option ℕ) → Found (usedHit hit next) n u → Means Chosen Many hit ahead next (settled ahead (judged o u))
-        by-found (some s) (found l) u f = accepted-means s (choose s (record { passes = l .passes; before = l .before }))
-        by-found none (missing h) (some s) (found l) = used-means s (none-fresh h) (l .passes)
-        by-found none (missing h) none (missing i) = wrong-means (none-hit h i)
+        by-found : (o : Option ℕ) → Found (freshHit hit next) n o → (p : Option ℕ) → Found (lastHit hit next) n p → (u : Option ℕ) → Found (usedHit hit next) n u
+            → Means Chosen Many hit ahead next (settled ahead (judged o p u))
+        by-found (some s) (found l) p g u f = accepted-means s (choose s (record { passes = l .passes; before = l .before }))
+        by-found none (missing h) (some s) (found l) u f = again-means s (none-at-all (leb next) h) (l .passes)
+        by-found none (missing h) none (missing g) (some s) (found l) = used-means s (none-at-all (leb next) h) (none-at-all (λ r. eqb (r + 1) next) g) (l .passes)
+        by-found none (missing h) none (missing g) none (missing i) = wrong-means (none-hit h i)
 
   pub check-means : MeansFirst hit ahead next (settled ahead (checked hit next n))
   check-means = found-means first-choice (λ s f. f)
@@ -200,6 +224,23 @@ module _ (hit : ℕ → Bool) (ahead next n : ℕ) (bounded : (r : ℕ) → hit 
       λ l. means .several .1 (fresh-two l),
     )
 
+-- ---- used, presented again or not
+
+module _ {Chosen : ℕ → Type 0} {Many : Type 0} {hit : ℕ → Bool} {ahead next : ℕ} {o : Outcome} (means : Means Chosen Many hit ahead next o) where
+  pub found-used : ((o ≡ Again) ⊎ (o ≡ Used) → Never (freshHit hit next) × ((s : ℕ) × (usedHit hit next s ≡ true)))
+      × (Never (freshHit hit next) → (s : ℕ) → usedHit hit next s ≡ true → (o ≡ Again) ⊎ (o ≡ Used))
+  found-used = (
+    λ e.
+        ⊎-elim
+        (λ (a : o ≡ Again). let m = means .again .0 a in (m .0, (m .1 .0, and-both (lt-ltb (m .1 .0) next (omega (arith, eqb-true (m .1 .0 + 1) next (and-left _ _ (m .1 .1))))) (and-right (eqb (m .1 .0 + 1) next) _ (m .1 .1)))))
+        (λ (u : o ≡ Used). let m = means .used .0 u in (m .0, m .1 .1))
+        e,
+    λ h s u.
+        by-test (lastHit hit next (next - 1))
+        (λ t. inl (means .again .1 h (next - 1) t))
+        (λ f. inr (means .used .1 h (λ r. by-test (lastHit hit next r) (λ t. let e : r ≡ next - 1 = omega (arith, eqb-true (r + 1) next (and-left _ _ t)) in clash t (rw e f)) (λ g. g)) s u)),
+  )
+
 -- ---- a token's candidates
 
 module _ (k : Track) (clock : ℕ) (size : Size) where
@@ -229,6 +270,24 @@ module _ (k : Track) (clock : ℕ) (size : Size) where
         let s = hit .0 in
         let fresh = and-right (leb (k .next .0) s) _ (hit .1 .1 .passes) in
         rw (hit .1 .0, add-zero s) (and-left _ _ fresh)
+
+    -- `next` - 1 is a candidate that matches: of a used password that tells whether it is presented again
+    abbrev lastMatches : Bool
+    lastMatches = ltb 0 (k .next .0) && (candidate k clock size (k .next .0 - 1) && matches (k .next .0 - 1))
+
+    pub single-again : singleCheck k clock size matches ≡ Again → lastMatches ≡ true
+    single-again e =
+        let hit = single-means .again .0 e .1 in
+        let last = eqb-true (hit .0 + 1) (k .next .0) (and-left _ _ (hit .1)) in
+        let same : k .next .0 - 1 ≡ hit .0 = omega (arith, last) in
+        and-both (lt-ltb 0 (k .next .0) (omega (arith, last))) (rw same (and-right (eqb (hit .0 + 1) (k .next .0)) _ (hit .1)))
+
+    pub single-used : singleCheck k clock size matches ≡ Used → lastMatches ≡ false
+    single-used e =
+        let none = single-means .used .0 e .1 .0 (k .next .0 - 1) in
+        by-test (ltb 0 (k .next .0))
+        (λ t. let last : k .next .0 - 1 + 1 ≡ k .next .0 = omega (arith, ltb-true 0 (k .next .0) t) in rw t (rw (eq-eqb (k .next .0 - 1 + 1) (k .next .0) last) at none))
+        (λ t. rw t)
 
   module _ (first second : ℕ → Bool) where
     both-candidates : (s : ℕ) → pairHit (candidate k clock size) first second s ≡ true → (candidate k clock size s ≡ true) × (candidate k clock size (s + 1) ≡ true)

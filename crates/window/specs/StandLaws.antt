@@ -37,7 +37,7 @@ pub record Stand (pair : Bool) (hit : ℕ → Bool) (first end next ahead : ℕ)
   pub paired : pair ≡ true → Paired hit first end next ahead m made i
 
 pub stand-begun : (goal : Goal) (hit : ℕ → Bool) (first end next : ℕ) {ahead sure : ℕ} → ahead ≡ aheadBy goal → end - first ≤ 51 → first ≤ 2 ^ 41
-    → sure ≡ sureCuts goal (end - first) (next - first) → Stand (goal .pair) hit first end next ahead (record { used = false; fresh = 0; at = 0 }) sure 0
+    → sure ≡ sureCuts goal (end - first) (next - first) → Stand (goal .pair) hit first end next ahead (record { used = false; again = false; fresh = 0; at = 0 }) sure 0
 stand-begun goal hit first end next {ahead} {sure} a f s e =
     record {
       stands = a;
@@ -117,25 +117,28 @@ module _ {pair : Bool} {hit : ℕ → Bool} {first end next ahead : ℕ} {m : Me
     pub looked-less : (end - (first + (i + 1))) + (end - (first + made)) < (end - (first + i)) + (end - (first + made))
     looked-less = omega (arith, still-inside)
 
-    module _ (h : Bool) (eh : hit (first + i) ≡ h) (l : i + ahead < made) where
-      counts-met : (h late : Bool) → metBy m h late i .fresh ≤ m .fresh + 1
-      counts-met false late = omega arith
+    module _ (h last : Bool) (eh : hit (first + i) ≡ h) (l : i + ahead < made) where
+      abbrev met : Bool → Bool → Met
+      met h fresh = metBy m h fresh last i
+
+      counts-met : (h fresh : Bool) → met h fresh .fresh ≤ m .fresh + 1
+      counts-met false fresh = omega arith
       counts-met true false = omega arith
       counts-met true true = omega arith
 
-      near-met : (h late : Bool) → metBy m h late i .at ≤ i + 1
-      near-met false late = omega (arith, st .near)
+      near-met : (h fresh : Bool) → met h fresh .at ≤ i + 1
+      near-met false fresh = omega (arith, st .near)
       near-met true false = omega (arith, st .near)
       near-met true true = omega arith
 
-      ends-met : pair ≡ true → (h late : Bool) → hit (first + i) ≡ h → leb next (first + i) ≡ late → 0 < metBy m h late i .fresh → made ≡ metBy m h late i .at + ahead + 1
-      ends-met p false late t u z = absurd (omega (arith, unmet p))
+      ends-met : pair ≡ true → (h fresh : Bool) → hit (first + i) ≡ h → leb next (first + i) ≡ fresh → 0 < met h fresh .fresh → made ≡ met h fresh .at + ahead + 1
+      ends-met p false fresh t u z = absurd (omega (arith, unmet p))
       ends-met p true false t u z = absurd (omega (arith, unmet p))
       ends-met p true true t u z =
           let one : ahead ≡ 1 = st .stands ∙ rw p in
           omega (arith, one, st .paired p .certain t, leb-true next (first + i) u)
 
-      pub stand-met : Stand pair hit first end next ahead (metBy m h (leb next (first + i)) i) made (i + 1)
+      pub stand-met : Stand pair hit first end next ahead (met h (leb next (first + i))) made (i + 1)
       stand-met =
           record {
             stands = st .stands;

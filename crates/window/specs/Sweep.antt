@@ -1,13 +1,13 @@
 -- The sweep of a window (document 02, Asks 2 and 5): up the candidates once, how many passwords it computes, and how many fresh steps match.
 use Prim.Native.Nat.{ℕ, _+_, min}
-use mathlib.Core.Bool.{Bool, true, false, cond, _&&_}
+use mathlib.Core.Bool.{Bool, true, false, cond, _&&_, _||_}
 use mathlib.Core.List.{List, []}
 use lib.Dec.{eqb, ltb}
 use Rattle.otp.specs.Typed.{digitsOf}
 use Rattle.window.specs.declared.Size.{Size}
 use Rattle.window.specs.declared.Track.{Track}
 use Rattle.window.specs.declared.Outcome.{Outcome}
-use Rattle.window.specs.declared.Outcome.the-variants.{Accepted, Several, Used, Wrong}
+use Rattle.window.specs.declared.Outcome.the-variants.{Accepted, Several, Again, Used, Wrong}
 use Rattle.window.specs.declared.asked.Asked.{Asked}
 use Rattle.window.specs.declared.goal.Goal.{Goal}
 use Rattle.window.specs.declared.met.Met.{Met}
@@ -23,6 +23,7 @@ use Rattle.window.specs.Goal.{aheadBy, hits}
 abbrev pub sweptTo : Bool → ℕ → Outcome → ℕ
 sweptTo pair end (Accepted a) = cond pair (a .0 + 1) end
 sweptTo pair end Several = end
+sweptTo pair end Again = end
 sweptTo pair end Used = end
 sweptTo pair end Wrong = end
 
@@ -50,6 +51,7 @@ computedOf passwords k clock key challenge asked =
 abbrev pub acceptances : Outcome → ℕ
 acceptances (Accepted a) = 1
 acceptances Several = 0
+acceptances Again = 0
 acceptances Used = 0
 acceptances Wrong = 0
 
@@ -87,20 +89,22 @@ sureCuts goal all used = cond (goal .pair) (min all (used + 2)) all
 
 -- ---- what a sweep has met
 
-abbrev pub metBy : Met → Bool → Bool → ℕ → Met
-metBy m hit late i =
+-- whether the step at place i hits, is fresh, or is the last used one
+abbrev pub metBy : Met → Bool → Bool → Bool → ℕ → Met
+metBy m hit fresh last i =
     cond hit
-    (cond late (record { used = m .used; fresh = m .fresh + 1; at = i }) (record { used = true; fresh = m .fresh; at = m .at }))
+    (cond fresh (record { used = m .used; again = m .again; fresh = m .fresh + 1; at = i }) (record { used = true; again = m .again || last; fresh = m .fresh; at = m .at }))
     m
 
--- where nothing is accepted
-abbrev pub unaccepted : Bool → Outcome
-unaccepted true = Used
-unaccepted false = Wrong
+-- where nothing is accepted: whether the last used step hit, or any used one
+abbrev pub unaccepted : Bool → Bool → Outcome
+unaccepted true used = Again
+unaccepted false true = Used
+unaccepted false false = Wrong
 
 -- where at most one fresh step hit
 abbrev pub metOnce : ℕ → ℕ → Met → Outcome
-metOnce first ahead m = cond (ltb 0 (m .fresh)) (Accepted (record { 0 = first + m .at + ahead })) (unaccepted (m .used))
+metOnce first ahead m = cond (ltb 0 (m .fresh)) (Accepted (record { 0 = first + m .at + ahead })) (unaccepted (m .again) (m .used))
 
 abbrev pub metOutcome : ℕ → ℕ → Met → Outcome
 metOutcome first ahead m = onlyOne (m .fresh) (metOnce first ahead m)

@@ -6,7 +6,7 @@ use mathlib.Core.List.{List, _++_, append-assoc}
 use native.Mathlib.Nat.{add-zero}
 use native.Mathlib.Omega.{arith}
 use borrow.Author.Tests.{leb-true, leb-false, ltb-true, ltb-false, le-leb, lt-leb, lt-ltb, le-ltb}
-use lib.Dec.{leb, ltb}
+use lib.Dec.{eqb, leb, ltb}
 use lib.ListN.{length, getD, take}
 use lib.Seq.{take-at, getD-take}
 use Rattle.words.specs.BoolLaws.{by-test, either-by, and-right, and-false, clash}
@@ -17,7 +17,7 @@ use Rattle.otp.specs.CutLists.{stepCut}
 use Rattle.window.specs.declared.Size.{Size}
 use Rattle.window.specs.declared.Track.{Track}
 use Rattle.window.specs.declared.Outcome.{Outcome}
-use Rattle.window.specs.declared.Outcome.the-variants.{Accepted, Several, Used, Wrong}
+use Rattle.window.specs.declared.Outcome.the-variants.{Accepted, Several, Again, Used, Wrong}
 use Rattle.window.specs.declared.goal.Goal.{Goal}
 use Rattle.window.specs.declared.met.Met.{Met}
 use Rattle.window.specs.declared.Swept.{Swept}
@@ -35,24 +35,29 @@ use Rattle.window.specs.Sweep.{sweptTo, computedTo, acceptances, goalHit
 -- ---- what was met, a place higher: of several fresh hits nothing is said
 
 module _ (hit : ℕ → Bool) (next first i : ℕ) (m : Met) (found : m .fresh ≤ 1 → checked hit next (first + i) ≡ metOnce first 0 m) where
-  met-used : hit (first + i) ≡ true → first + i < next → m .fresh ≤ 1 → checked hit next (first + i + 1) ≡ metOnce first 0 (record { used = true; fresh = m .fresh; at = m .at })
+  met-used : hit (first + i) ≡ true → first + i < next → m .fresh ≤ 1
+      → checked hit next (first + i + 1) ≡ metOnce first 0 (record { used = true; again = m .again || eqb (first + i + 1) next; fresh = m .fresh; at = m .at })
   met-used t l few =
       by-test (ltb 0 (m .fresh))
       (λ f. rw f (accepted-stays hit next (first + m .at + 0) (first + i) 1 (rw f at (found few))))
-      (λ f. rw f (checked-used hit next (first + i) (m .used) (rw f at (found few)) t l))
+      (λ f. rw f (checked-used hit next (first + i) (m .again) (m .used) (rw f at (found few)) t l))
 
-  met-fresh : hit (first + i) ≡ true → next ≤ first + i → m .fresh + 1 ≤ 1 → checked hit next (first + i + 1) ≡ metOnce first 0 (record { used = m .used; fresh = m .fresh + 1; at = i })
+  met-fresh : hit (first + i) ≡ true → next ≤ first + i → m .fresh + 1 ≤ 1
+      → checked hit next (first + i + 1) ≡ metOnce first 0 (record { used = m .used; again = m .again; fresh = m .fresh + 1; at = i })
   met-fresh t l few =
       let p = lt-ltb 0 (m .fresh + 1) (omega arith) in
-      rw (p, add-zero (first + i)) (checked-fresh hit next (first + i) (m .used) (rw (le-ltb 0 (m .fresh) (omega arith)) at (found (omega arith))) t l)
+      rw (p, add-zero (first + i)) (checked-fresh hit next (first + i) (m .again) (m .used) (rw (le-ltb 0 (m .fresh) (omega arith)) at (found (omega arith))) t l)
 
-  met-next : (h late : Bool) → hit (first + i) ≡ h → leb next (first + i) ≡ late → metBy m h late i .fresh ≤ 1 → checked hit next (first + (i + 1)) ≡ metOnce first 0 (metBy m h late i)
-  met-next h late eh el few = let e : first + (i + 1) ≡ first + i + 1 = omega arith in rw e (by-hit h late eh el few)
+  abbrev met : Bool → Bool → Met
+  met h fresh = metBy m h fresh (eqb (first + i + 1) next) i
+
+  met-next : (h fresh : Bool) → hit (first + i) ≡ h → leb next (first + i) ≡ fresh → met h fresh .fresh ≤ 1 → checked hit next (first + (i + 1)) ≡ metOnce first 0 (met h fresh)
+  met-next h fresh eh ef few = let e : first + (i + 1) ≡ first + i + 1 = omega arith in rw e (by-hit h fresh eh ef few)
     where
-      by-hit : (h late : Bool) → hit (first + i) ≡ h → leb next (first + i) ≡ late → metBy m h late i .fresh ≤ 1 → checked hit next (first + i + 1) ≡ metOnce first 0 (metBy m h late i)
-      by-hit false late eh el few = checked-miss hit next (first + i) eh ∙ found few
-      by-hit true false eh el few = met-used eh (leb-false next (first + i) el) few
-      by-hit true true eh el few = met-fresh eh (leb-true next (first + i) el) few
+      by-hit : (h fresh : Bool) → hit (first + i) ≡ h → leb next (first + i) ≡ fresh → met h fresh .fresh ≤ 1 → checked hit next (first + i + 1) ≡ metOnce first 0 (met h fresh)
+      by-hit false fresh eh ef few = checked-miss hit next (first + i) eh ∙ found few
+      by-hit true false eh ef few = met-used eh (leb-false next (first + i) ef) few
+      by-hit true true eh ef few = met-fresh eh (leb-true next (first + i) ef) few
 
 -- ---- the candidates
 
@@ -75,6 +80,7 @@ candidates-below k clock size = many-in-range (candidate k clock size) (firstSte
 pub single-swept : (end : ℕ) (o : Outcome) → sweptTo false end o ≡ end
 single-swept end (Accepted a) = refl
 single-swept end Several = refl
+single-swept end Again = refl
 single-swept end Used = refl
 single-swept end Wrong = refl
 
@@ -106,7 +112,7 @@ module _ (first end next : ℕ) (goal : Goal) (cutOf : ℕ → ℕ) where
   hit-below : (s : ℕ) → s < first → rangeHit s ≡ false
   hit-below s l = rw (lt-leb first s l)
 
-  pub told-begun : Told (record { used = false; fresh = 0; at = 0 }) 0
+  pub told-begun : Told (record { used = false; again = false; fresh = 0; at = 0 }) 0
   told-begun =
       let e : first + 0 ≡ 0 + first = omega arith in
       record {
@@ -114,13 +120,13 @@ module _ (first end next : ℕ) (goal : Goal) (cutOf : ℕ → ℕ) where
         counted = rw (add-zero first) (many-none fresh first (λ r l. rw (hit-below r l) (and-false (leb next r))));
       }
 
-  counted-next : (m : Met) (i : ℕ) (h late : Bool) → howMany fresh (first + i) ≡ m .fresh → rangeHit (first + i) ≡ h → leb next (first + i) ≡ late
-      → howMany fresh (first + (i + 1)) ≡ metBy m h late i .fresh
-  counted-next m i h late e eh el =
+  counted-next : (m : Met) (i : ℕ) (h late last : Bool) → howMany fresh (first + i) ≡ m .fresh → rangeHit (first + i) ≡ h → leb next (first + i) ≡ late
+      → howMany fresh (first + (i + 1)) ≡ metBy m h late last i .fresh
+  counted-next m i h late last e eh el =
       let a : first + (i + 1) ≡ first + i + 1 = omega arith in
       rw (a, many-next fresh (first + i), eh, el, e) (by-hit h late)
     where
-      by-hit : (h late : Bool) → m .fresh + cond (late && h) 1 0 ≡ metBy m h late i .fresh
+      by-hit : (h late : Bool) → m .fresh + cond (late && h) 1 0 ≡ metBy m h late last i .fresh
       by-hit true true = refl
       by-hit true false = add-zero (m .fresh)
       by-hit false true = add-zero (m .fresh)
@@ -144,9 +150,9 @@ module _ (first end next : ℕ) (goal : Goal) (cutOf : ℕ → ℕ) where
       stand-made st still short (e .1 .0) (e .1 .1) (more-left goal x left (e .0) (omega (arith, some-left st still short)))
       (λ t. more-hit goal x left (e .0) (cutOf (first + i + aheadBy goal)) (for-pair st still short) (rw ex (and-right (within first end (first + i) && within first end (first + i + aheadBy goal)) _ t)))
 
-  pub told-next : (m : Met) (i : ℕ) {h : Bool} → rangeHit (first + i) ≡ h → Told m i → Told (metBy m h (leb next (first + i)) i) (i + 1)
+  pub told-next : (m : Met) (i : ℕ) {h : Bool} → rangeHit (first + i) ≡ h → Told m i → Told (metBy m h (leb next (first + i)) (eqb (first + i + 1) next) i) (i + 1)
   told-next m i {h} eh told =
-      record { found = met-next rangeHit next first i m (told .found) h _ eh refl; counted = counted-next m i h _ (told .counted) eh refl }
+      record { found = met-next rangeHit next first i m (told .found) h _ eh refl; counted = counted-next m i h _ _ (told .counted) eh refl }
 
   module _ {ahead n made i : ℕ} {m : Met} (ea : ahead ≡ aheadBy goal) (below : end ≤ n) (st : Stand (goal .pair) rangeHit first end next ahead m made i) (told : Told m i)
       (ended : leb end (first + i + ahead) || (goal .pair && ltb 0 (m .fresh)) ≡ true) where
@@ -175,9 +181,10 @@ module _ (first end next : ℕ) (goal : Goal) (cutOf : ℕ → ℕ) where
     made-are : min (sweptTo (goal .pair) n (metOutcome first ahead m)) end - first ≡ made
     made-are = by-test (goal .pair) (λ p. rw p (for-pair p)) (λ p. rw (p, single-swept n (metOutcome first ahead m)) (omega (arith, st .all p)))
       where
-        past-unaccepted : (u : Bool) → sweptTo true n (unaccepted u) ≡ n
-        past-unaccepted true = refl
-        past-unaccepted false = refl
+        past-unaccepted : (a u : Bool) → sweptTo true n (unaccepted a u) ≡ n
+        past-unaccepted true u = refl
+        past-unaccepted false true = refl
+        past-unaccepted false false = refl
 
         for-pair : goal .pair ≡ true → min (sweptTo true n (metOutcome first ahead m)) end - first ≡ made
         for-pair p =
@@ -186,25 +193,27 @@ module _ (first end next : ℕ) (goal : Goal) (cutOf : ℕ → ℕ) where
             (λ u. rw u (omega (arith, st .most, st .paired p .ends (ltb-true 0 (m .fresh) u))))
             (λ u.
             let l = all-looked (goal .pair) first end ahead i m (λ t. ltb-false 0 (m .fresh) u) ended in
-            rw (u, past-unaccepted (m .used)) (omega (arith, st .most, st .least))))
+            rw (u, past-unaccepted (m .again) (m .used)) (omega (arith, st .most, st .least))))
 
 settled-met : (first ahead : ℕ) (m : Met) → settled ahead (metOnce first 0 m) ≡ metOnce first ahead m
-settled-met first ahead m = by-test (ltb 0 (m .fresh)) (λ u. rw (u, add-zero (first + m .at))) (λ u. rw u (plain (m .used)))
+settled-met first ahead m = by-test (ltb 0 (m .fresh)) (λ u. rw (u, add-zero (first + m .at))) (λ u. rw u (plain (m .again) (m .used)))
   where
-    plain : (u : Bool) → settled ahead (unaccepted u) ≡ unaccepted u
-    plain true = refl
-    plain false = refl
+    plain : (a u : Bool) → settled ahead (unaccepted a u) ≡ unaccepted a u
+    plain true u = refl
+    plain false true = refl
+    plain false false = refl
 
 -- one fresh hit at most is what is accepted
 once-met : (first ahead : ℕ) (m : Met) → m .fresh ≤ 1 → acceptances (metOnce first ahead m) ≡ m .fresh
 once-met first ahead m few =
     by-test (ltb 0 (m .fresh))
     (λ u. let one : m .fresh ≡ 1 = omega (arith, ltb-true 0 (m .fresh) u) in rw (u, one))
-    (λ u. let none : m .fresh ≡ 0 = omega (arith, ltb-false 0 (m .fresh) u) in rw (u, none) (none-accepted (m .used)))
+    (λ u. let none : m .fresh ≡ 0 = omega (arith, ltb-false 0 (m .fresh) u) in rw (u, none) (none-accepted (m .again) (m .used)))
   where
-    none-accepted : (u : Bool) → acceptances (unaccepted u) ≡ 0
-    none-accepted true = refl
-    none-accepted false = refl
+    none-accepted : (a u : Bool) → acceptances (unaccepted a u) ≡ 0
+    none-accepted true u = refl
+    none-accepted false true = refl
+    none-accepted false false = refl
 
 -- ---- the end of the sweep
 

@@ -1,4 +1,4 @@
--- The checks of a token (document 01, Part 3; document 02, Ask 5), over any predicate "step s has this password".
+-- The checks of a token (document 01, Part 3; document 02, Asks 4 and 5), over any predicate "step s has this password".
 use Prim.Native.Nat.{ℕ}
 use mathlib.Core.Bool.{Bool}
 use Rattle.window.specs.declared.Size.{Size}

@@ -49,10 +49,12 @@ pub struct Track {
     pub offset: Offset,
 }
 
-// What a check finds: the accepted step, or a password that several fresh steps have, or that was used or is wrong.
+// What a check finds: the accepted step; or a password that several fresh steps have, that is presented again (the step before the first unused one has it),
+// that an older used step has, or that is wrong.
 pub enum Outcome {
     Accepted(Step),
     Several,
+    Again,
     Used,
     Wrong,
 }

@@ -101,7 +101,7 @@ pub(crate) fn sweep(
         }
         let last = (i + ahead) as usize;
         let hit = hits(goal, cuts[here], cuts[last]);
-        met = met_by(met, hit, next <= first + i, i);
+        met = met_by(met, hit, next <= first + i, first + i + 1 == next, i);
         i += 1;
     }
 }

@@ -18,6 +18,9 @@ enum-told-2 c = search needs
 enum-told-3 : tie.Need-enum-told-3
 enum-told-3 c = search needs
 
+enum-told-4 : tie.Need-enum-told-4
+enum-told-4 c = search needs
+
 same-length : tie.Need-same-length
 same-length c = search needs
 
@@ -33,6 +36,9 @@ returns-3 c = rw (c .enum-told2 .given .1)
 returns-4 : tie.Need-returns-4
 returns-4 c = rw (c .enum-told3 .given .1)
 
+returns-5 : tie.Need-returns-5
+returns-5 c = rw (c .enum-told4 .given .1)
+
 pub put-outcome-spec : {M : Type 1} → statement M
 put-outcome-spec =
     tie.close
@@ -42,8 +48,10 @@ put-outcome-spec =
     enum-told
     enum-told-2
     enum-told-3
+    enum-told-4
     same-length
     returns
     returns-2
     returns-3
-    returns-4)
+    returns-4
+    returns-5)

@@ -1,3 +1,5 @@
+use mathlib.Core.Path.{ap, _∙_}
+use Rattle.token.specs.Deciding.{refusing}
 use borrow.Author.Needs.{needs}
 use Rattle.token.proofs.deciding.judging.Statement.{statement}
 use Rattle.token.proofs.deciding.judging.Tie as tie
@@ -23,8 +25,8 @@ refusing-requires c κs = search needs
 enum-told-2 : tie.Need-enum-told-2
 enum-told-2 c = search needs
 
-failed-requires : tie.Need-failed-requires
-failed-requires c κs = search needs
+repeated-requires : tie.Need-repeated-requires
+repeated-requires c κs = search needs
 
 refusing-requires-2 : tie.Need-refusing-requires-2
 refusing-requires-2 c κs = search needs
@@ -32,11 +34,20 @@ refusing-requires-2 c κs = search needs
 enum-told-3 : tie.Need-enum-told-3
 enum-told-3 c = search needs
 
-failed-requires-2 : tie.Need-failed-requires-2
-failed-requires-2 c κs = search needs
+failed-requires : tie.Need-failed-requires
+failed-requires c κs = search needs
 
 refusing-requires-3 : tie.Need-refusing-requires-3
 refusing-requires-3 c κs = search needs
+
+enum-told-4 : tie.Need-enum-told-4
+enum-told-4 c = search needs
+
+failed-requires-2 : tie.Need-failed-requires-2
+failed-requires-2 c κs = search needs
+
+refusing-requires-4 : tie.Need-refusing-requires-4
+refusing-requires-4 c κs = search needs
 
 returns : tie.Need-returns
 returns c = rw (c .before .before .before .before .outcome .given .1, c .before .before .offset-after .ensures, c .left-by .ensures, c .before .accepted .ensures)
@@ -45,10 +56,13 @@ returns-2 : tie.Need-returns-2
 returns-2 c = rw (c .before .enum-told .given .1) (c .refusing .ensures)
 
 returns-3 : tie.Need-returns-3
-returns-3 c = rw (c .before .before .enum-told2 .given .1, ← c .before .failed .ensures) (c .refusing2 .ensures)
+returns-3 c = rw (c .before .before .enum-told2 .given .1) (c .refusing2 .ensures ∙ ap (refusing _) (c .before .repeated .ensures))
 
 returns-4 : tie.Need-returns-4
-returns-4 c = rw (c .before .before .enum-told3 .given .1, ← c .before .failed2 .ensures) (c .refusing3 .ensures)
+returns-4 c = rw (c .before .before .enum-told3 .given .1, ← c .before .failed .ensures) (c .refusing3 .ensures)
+
+returns-5 : tie.Need-returns-5
+returns-5 c = rw (c .before .before .enum-told4 .given .1, ← c .before .failed2 .ensures) (c .refusing4 .ensures)
 
 pub judging-spec : {M : Type 1} → statement M
 judging-spec =
@@ -61,12 +75,16 @@ judging-spec =
     enum-told
     refusing-requires
     enum-told-2
-    failed-requires
+    repeated-requires
     refusing-requires-2
     enum-told-3
-    failed-requires-2
+    failed-requires
     refusing-requires-3
+    enum-told-4
+    failed-requires-2
+    refusing-requires-4
     returns
     returns-2
     returns-3
-    returns-4)
+    returns-4
+    returns-5)

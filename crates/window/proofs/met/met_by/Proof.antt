@@ -8,16 +8,16 @@ returns c = rw (not-true (c .before .args .hit) (c .if1 .taken))
 
 returns-2 : tie.Need-returns-2
 returns-2 c =
-    let args = c .before .before .args in
-    rw (not-false (args .hit) (c .before .if1 .left), not-true (args .late) (c .if2 .taken))
+    let args = c .before .before .before .args in
+    rw (not-false (args .hit) (c .before .before .if1 .left), not-true (args .fresh) (c .before .if2 .taken))
 
-add-t6 : tie.Need-add-t6
-add-t6 c = search needs
+add-t8 : tie.Need-add-t8
+add-t8 c = search needs
 
 returns-3 : tie.Need-returns-3
 returns-3 c =
     let args = c .before .before .before .args in
-    rw (not-false (args .hit) (c .before .before .if1 .left), not-false (args .late) (c .before .if2 .left))
+    rw (not-false (args .hit) (c .before .before .if1 .left), not-false (args .fresh) (c .before .if2 .left))
 
 pub met-by-spec : {M : Type 1} → statement M
-met-by-spec = tie.close (tie.spec returns returns-2 add-t6 returns-3)
+met-by-spec = tie.close (tie.spec returns returns-2 add-t8 returns-3)

@@ -19,7 +19,10 @@ returns-3 : tie.Need-returns-3
 returns-3 c = rw (lt-leb 2 _ (c .before .before .before .if1 .left), le-ltb 0 _ (c .before .if2 .left), c .if3 .taken)
 
 returns-4 : tie.Need-returns-4
-returns-4 c = rw (lt-leb 2 _ (c .before .before .before .if1 .left), le-ltb 0 _ (c .before .if2 .left), c .if3 .left)
+returns-4 c = rw (lt-leb 2 _ (c .before .before .before .before .if1 .left), le-ltb 0 _ (c .before .before .if2 .left), c .before .if3 .left, c .if4 .taken)
+
+returns-5 : tie.Need-returns-5
+returns-5 c = rw (lt-leb 2 _ (c .before .before .before .before .if1 .left), le-ltb 0 _ (c .before .before .if2 .left), c .before .if3 .left, c .if4 .left)
 
 pub met-outcome-spec : {M : Type 1} → statement M
-met-outcome-spec = tie.close (tie.spec returns add-t5 add-t6 returns-2 returns-3 returns-4)
+met-outcome-spec = tie.close (tie.spec returns add-t5 add-t6 returns-2 returns-3 returns-4 returns-5)

@@ -208,6 +208,12 @@ hits-requires c κs =
 add-met-by : tie.Need-add-met-by Inv-loop μ-loop
 add-met-by c = search needs
 
+add-met-by-2 : tie.Need-add-met-by-2 Inv-loop μ-loop
+add-met-by-2 c = search needs
+
+add-met-by-3 : tie.Need-add-met-by-3 Inv-loop μ-loop
+add-met-by-3 c = search needs
+
 met-by-requires : tie.Need-met-by-requires Inv-loop μ-loop
 met-by-requires c κs = search needs
 
@@ -235,7 +241,7 @@ loop-again-2 c =
     let y = cut-read cutOf _ _ _ (loop .i + ahead-by .result) (inv .are) (if2 .left) in
     let hit = place-hit (candidates .result .first .0) (candidates .result .end .0) (args .track .next .0) (args .goal) cutOf (loop .i) (ahead-by .ensures .0) (still-inside (inv .stand) (if1 .left)) x y (c .before .hits .ensures) in (
       record {
-        stand = rw (c .met-by .ensures) (stand-met (inv .stand) (if1 .left) (c .before .hits .result) hit (if2 .left));
+        stand = rw (c .met-by .ensures) (stand-met (inv .stand) (if1 .left) (c .before .hits .result) _ hit (if2 .left));
         told = rw (c .met-by .ensures) (told-next (candidates .result .first .0) (candidates .result .end .0) (args .track .next .0) (args .goal) cutOf (loop .met) (loop .i) hit (inv .told));
         room = inv .room;
         are = inv .are;
@@ -296,6 +302,8 @@ sweep-spec =
     array-read-hits-2
     hits-requires
     add-met-by
+    add-met-by-2
+    add-met-by-3
     met-by-requires
     add-i
     loop-less-2

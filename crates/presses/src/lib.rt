@@ -1,0 +1,1 @@
+// Double presses in lists of calls: definitions and theorems only.
