@@ -29,7 +29,8 @@ static const struct collision told_tokens[TOLD_TOKENS] = {
     [EVENT_SM3] = {DL_EVENT_TOKEN, DL_ALGORITHM_SM3, 3403, "", {3, 6, NO_THIRD}, "547160"},
     [EVENT_SM4] = {DL_EVENT_TOKEN, DL_ALGORITHM_SM4, 18225, "", {7, 9, NO_THIRD}, "140930"}};
 
-// The small window of a time token has its centre at the clock's step.
+// The small window of a time token has its centre at the clock's step. Where the password is used, step next - 1 has it or not, and is a
+// candidate or not.
 static const struct told_check {
     size_t token;
     uint64_t next, now;
@@ -37,9 +38,11 @@ static const struct told_check {
 } told_checks[] = {
     {TIME_SM3, 0, 3000, {0x8001, 0, 5, 2}}, {TIME_SM3, 99, 3000, {0x8001, 0, 5, 2}}, {TIME_SM3, 100, 3000, {DL_DONE, 102, 5, 1}},
     {TIME_SM3, 102, 3029, {DL_DONE, 102, 5, 1}}, {TIME_SM3, 103, 3000, {0x8004, 0, 5, 0}}, {TIME_SM3, 0, 3150, {0x8002, 0, 5, 0}},
+    {TIME_SM3, 100, 2970, {0x8004, 0, 5, 0}}, {TIME_SM3, 101, 2970, {0x8004, 0, 5, 0}}, {TIME_SM3, 103, 2970, {0x8004, 0, 5, 0}},
+    {TIME_SM3, 104, 3000, {0x8004, 0, 5, 0}}, {TIME_SM3, 104, 3030, {0x8004, 0, 5, 0}},
     {TIME_SM4, 0, 3000, {0x8001, 0, 5, 2}}, {TIME_SM4, 98, 3000, {0x8001, 0, 5, 2}}, {TIME_SM4, 99, 3000, {DL_DONE, 102, 5, 1}},
     {TIME_SM4, 0, 3030, {DL_DONE, 102, 5, 1}}, {TIME_SM4, 0, 2999, {DL_DONE, 98, 5, 1}}, {TIME_SM4, 103, 3000, {0x8004, 0, 5, 0}},
-    {TIME_SM4, 0, 3150, {0x8002, 0, 5, 0}},
+    {TIME_SM4, 0, 3150, {0x8002, 0, 5, 0}}, {TIME_SM4, 99, 2970, {0x8004, 0, 5, 0}}, {TIME_SM4, 103, 2970, {0x8004, 0, 5, 0}},
     {EVENT_SM3, 0, 1060, {0x8001, 0, 10, 2}}, {EVENT_SM3, 3, 1060, {0x8001, 0, 11, 2}}, {EVENT_SM3, 4, 1060, {DL_DONE, 6, 11, 1}},
     {EVENT_SM3, 6, 1060, {DL_DONE, 6, 11, 1}}, {EVENT_SM3, 7, 1060, {0x8004, 0, 11, 0}}, {EVENT_SM3, 8, 1060, {0x8002, 0, 11, 0}},
     {EVENT_SM4, 0, 1060, {0x8001, 0, 10, 2}}, {EVENT_SM4, 7, 1060, {0x8001, 0, 11, 2}}, {EVENT_SM4, 8, 1060, {DL_DONE, 9, 11, 1}},

@@ -55,16 +55,28 @@ static inline struct desk_answer told_answer(const struct single_call *line, con
     }
 }
 
-// Accepted: marked. Asked for the following password: as it was. Used or wrong: a third error, by which a login locks.
+// A used password that the candidate next - 1 has: a login's double press (request 4).
+static inline int is_told_press(const struct single_call *line, const struct told_check *told)
+{
+    const struct collision *token = &told_tokens[told->token];
+    int64_t last_used = (int64_t)told->next - 1;
+    if (token->kind == DL_TIME_TOKEN && window_distance(last_used, (int64_t)told->now / COLLISION_PERIOD) > 2)
+        return 0;
+    return line->name == CALL_LOGIN && told->answer.code == 0x8004 && (token->steps[0] == last_used || token->steps[1] == last_used);
+}
+
+// Accepted: marked. Asked for the following password, or pressed twice: as it was. Used or wrong: a third error, by which a login locks.
 static inline void change_told_row(uint8_t *row, const struct single_call *line, const struct told_check *told)
 {
     const struct change accepted[MOST_CHANGES] = {{ROW_STATE, 2}, ACCEPTED(told->answer.step, told->now), OFFSET(told_offset(told))};
     const struct change locked[MOST_CHANGES] = {{ROW_STATE, 3}, {ROW_ERRORS, 3}, {ROW_LOCKED_AT, told->now}};
+    if (told->answer.code == 0x8001 || is_told_press(line, told))
+        return;
     if (told->answer.code == DL_DONE)
         apply(row, accepted);
-    else if (told->answer.code != 0x8001 && line->name == CALL_LOGIN)
+    else if (line->name == CALL_LOGIN)
         apply(row, locked);
-    else if (told->answer.code != 0x8001)
+    else
         row_put(row, ROW_ERRORS, 3);
 }
 

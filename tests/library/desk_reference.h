@@ -1,5 +1,5 @@
-// The desk of document 01, Part 5 and "What a turned-down call says", with 8001 and 8101 of document 02, request 5, over a table of bytes,
-// written from the documents alone. Its row is that of row_reference.h and its check that of window_reference.h.
+// The desk of document 01, Part 5 and "What a turned-down call says", with the double press of document 02, request 4, and 8001 and 8101 of its
+// request 5, over a table of bytes, written from the documents alone. Its row is that of row_reference.h and its check that of window_reference.h.
 #ifndef DESK_REFERENCE_H
 #define DESK_REFERENCE_H
 
@@ -253,7 +253,20 @@ static inline struct window_answer desk_search(const uint8_t *row, const struct 
     return window_check(&token);
 }
 
-// What becomes of the row by what the search found: the refusal, or DL_DONE. Where the following password is asked for, the row stays.
+// Document 02, request 4: a login or challenge login whose password is that of the candidate next - 1. It is a double press if it is used.
+static inline int desk_is_press(const uint8_t *row, const struct desk_call *call)
+{
+    struct window_call token = desk_token(row, call);
+    struct window window = window_of(&token);
+    struct window_typed password;
+    if (!desk_is_login(call->name) || !window_has(&window, window.next - 1))
+        return 0;
+    window_password(&token, window.next - 1, &password);
+    return window_is_same(&password, &call->password);
+}
+
+// What becomes of the row by what the search found: the refusal, or DL_DONE. Where the following password is asked for, and by a double
+// press, the row stays.
 static inline uint16_t desk_judge(uint8_t *row, const struct desk_call *call, struct window_answer found)
 {
     if (found.code == DL_NEXT_WANTED)
@@ -266,7 +279,8 @@ static inline uint16_t desk_judge(uint8_t *row, const struct desk_call *call, st
         desk_accept(row, call->now, found.step);
         return DL_DONE;
     }
-    desk_add_error(row, call);
+    if (found.code != DL_USED || !desk_is_press(row, call))
+        desk_add_error(row, call);
     return found.code == DL_USED ? desk_used_code(call->name) : desk_wrong_code(call->name);
 }
 

@@ -31,7 +31,10 @@ static const struct told_call story[] = {
     {CALL_ACTIVATE, 7, 1060, 36, 37, 0x8409, {0}},
     {CALL_LOGIN, 7, 1060, 36, NO_STEP, 0x8004, {0}},
     {CALL_LOGIN, 7, 1060, 37, NO_STEP, 0x0001, {37, 2}},
+    // a double press is no error, an older step is one
     {CALL_LOGIN, 7, 1060, 37, NO_STEP, 0x8004, {0}},
+    {CALL_QUERY, 7, 1060, NO_STEP, NO_STEP, 0x010b, {2, 0, 1060}},
+    {CALL_LOGIN, 7, 1060, 36, NO_STEP, 0x8004, {0}},
     // accepted for the other token all the same
     {CALL_ACTIVATE, 8, 1060, 36, 37, 0x0101, {37, 2}},
     {CALL_QUERY, 7, 1060, NO_STEP, NO_STEP, 0x010b, {2, 1, 1060}},

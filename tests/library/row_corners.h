@@ -1,4 +1,5 @@
-// Single calls on one token, with the answers that document 01 gives them, written out without the reference.
+// Single calls on one token, with the answers that the documents give them, written out without the reference; double presses have a table of their
+// own in desk_presses.h.
 #ifndef ROW_CORNERS_H
 #define ROW_CORNERS_H
 
@@ -70,7 +71,7 @@ static const struct corner corners[] = {
      CALL_LOGIN, 1060, WRONG_DIGITS, NOTHING, 0x8002,
      {{ROW_STATE, 3}, {ROW_ERRORS, 10}, {ROW_LOCKED_AT, 1060}}, NO_VALUES},
     {"one error below the limit, used challenge login", {{ROW_ERRORS, 4}, {ROW_NEXT, 36}},
-     CALL_CHALLENGE_LOGIN, 1060, 35,
+     CALL_CHALLENGE_LOGIN, 1060, 34,
      NOTHING, 0x8004, {{ROW_STATE, 3}, {ROW_ERRORS, 5}, {ROW_LOCKED_AT, 1060}}, NO_VALUES},
     {"two errors below the limit", {{ROW_ERRORS, 3}}, CALL_LOGIN, 1060, WRONG_DIGITS, NOTHING, 0x8002,
      {{ROW_ERRORS, 4}}, NO_VALUES},
@@ -95,14 +96,13 @@ static const struct corner corners[] = {
      {{ROW_ERRORS, 1}}, NO_VALUES},
     {"a pair from next on", {{ROW_NEXT, 101}}, SYNC_MEDIUM, 3030, 101, 102, 0x0108,
      {ACCEPTED(102, 3030), OFFSET(1)}, STEP_OFFSET, {102, 1}},
-    {"event, the count before next", {EVENT, {ROW_NEXT, 5}}, CALL_LOGIN, 1060, 4, NOTHING, 0x8004,
-     {{ROW_ERRORS, 1}}, NO_VALUES},
+    {"event, the count before next", {EVENT, {ROW_NEXT, 5}}, CALL_LOGIN, 1060, 4, NOTHING, 0x8004, KEPT, NO_VALUES},
     {"event, the one before it", {EVENT, {ROW_NEXT, 5}, {ROW_ERRORS, 1}}, CALL_LOGIN, 1060, 3, NOTHING, 0x8002,
      {{ROW_ERRORS, 2}}, NO_VALUES},
     {"event, the last count", {EVENT, {ROW_NEXT, COUNT_END - 1}}, CALL_LOGIN, 1060, COUNT_END - 1, NOTHING, 0x0001,
      {ACCEPTED(COUNT_END - 1, 1060)}, STEP_OFFSET, {COUNT_END - 1, 0}},
     {"event, nothing is fresh after it", {EVENT, {ROW_NEXT, COUNT_END}}, CALL_LOGIN, 1060, COUNT_END - 1, NOTHING, 0x8004,
-     {{ROW_ERRORS, 1}}, NO_VALUES},
+     KEPT, NO_VALUES},
     {"event, no pair after it", {EVENT, {ROW_NEXT, COUNT_END}}, SYNC_LARGE, 1060, COUNT_END - 2, COUNT_END - 1, 0x8105,
      {{ROW_ERRORS, 1}}, NO_VALUES},
     {"event, no pair round the end", {EVENT, {ROW_NEXT, COUNT_END}}, SYNC_LARGE, 1060, COUNT_END - 1, 0, 0x8105,
