@@ -7,8 +7,10 @@
 #include "desk_collisions.h"
 #include "desk_corners.h"
 #include "desk_lists.h"
+#include "desk_presses.h"
 #include "desk_story.h"
 #include "desk_watch.h"
+#include "press_runs.h"
 
 // ---- fixed calls
 
@@ -295,6 +297,13 @@ static const struct test tests[] = {
     {"lists of calls on such tokens, on zero rows", collision_lists_on_zero_rows, 0},
     {"lists of calls on such tokens, in any state", collision_lists_in_any_state, 0},
     {"8001 and 8101 came up often in these lists, by each kind and algorithm", asked_often, 1},
+    {"request 4's table, and calls near it", fixed_presses, 0},
+    {"a thousand double presses of a token of limit 1, and an older step that locks it", thousand_presses, 0},
+    {"one press that lets a wait run out, struck or replaced", one_press_struck, 0},
+    {"lists of calls with double presses, on zero rows", press_lists_on_zero_rows, 0},
+    {"lists of calls with double presses, in any state", press_lists_in_any_state, 0},
+    {"lists of calls with double presses, on tables that are damaged meanwhile", press_lists_on_damaged_rows, 0},
+    {"double presses came up often in these lists, of each sort", pressed_often, 1},
     {"arguments at the ends of their ranges", just_inside, 0},
     {"each argument out of its range", just_outside, 0},
     {"lengths past 32 bits", long_buffers, 1},
