@@ -1,9 +1,12 @@
 // A random script for the desk's line program and its answers by tests/library/desk_reference.h: desk_scripts SEED ROWS CALLS LINES ANSWERS,
-// the last two the files that are written. Where three divides the seed, its tokens show one password at two steps.
+// the last two the files that are written. With a seed of 3k its tokens show one password at two steps, with one of 3k + 2 Sign is often pressed
+// twice. It prints how many double presses there are.
 #define _DEFAULT_SOURCE
 #include "../library/collision_lists.h"
+#include "../library/press_lists.h"
 
 static FILE *lines, *replies;
+static long presses;
 
 // ---- lines
 
@@ -105,12 +108,15 @@ static void put_other_line(size_t rows)
 
 // ---- a script
 
-static struct collision_list list; // without a collision one of any tokens
+static struct collision_list list; // but for one on equal steps its base alone
+static enum { ON_EQUAL_STEPS, ANY, PRESSES } sort;
 
-static void begin_script(size_t rows, int on_equal_steps)
+static void begin_script(size_t rows)
 {
-    if (on_equal_steps)
+    if (sort == ON_EQUAL_STEPS)
         begin_collision_list(&list, rows);
+    else if (sort == PRESSES)
+        begin_press_list(&list.base, rows);
     else
         begin_list(&list.base, rows);
     fprintf(lines, "rows,%zu\n", rows);
@@ -118,8 +124,10 @@ static void begin_script(size_t rows, int on_equal_steps)
 
 static void next_line_call(struct desk_call *call)
 {
-    if (list.collision != NULL)
+    if (sort == ON_EQUAL_STEPS)
         next_collision_call(&list, call);
+    else if (sort == PRESSES)
+        next_press_call(&list.base, call);
     else
         next_call(&list.base, call);
 }
@@ -134,6 +142,7 @@ static void put_calls(size_t rows, size_t calls)
             next_line_call(&call);
         while (!can_be_written(&call, rows));
         struct desk_answer answer = desk_answer_to(table, &call);
+        presses += answer.code == DL_USED && desk_is_press(desk_find(table, call.table_len, call.serial), &call);
         put_line(&call);
         put_answer(&answer);
     }
@@ -150,7 +159,9 @@ int main(int argc, char **argv)
     if (lines == NULL || replies == NULL)
         die("a file cannot be written");
     otp_open_library();
-    begin_script(rows, seed % 3 == 0);
+    sort = seed % 3;
+    begin_script(rows);
     put_calls(rows, strtoull(argv[3], NULL, 10));
+    printf("%ld\n", presses);
     return fclose(lines) != 0 || fclose(replies) != 0;
 }
