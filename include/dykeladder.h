@@ -34,8 +34,8 @@ extern "C" {
 #endif
 
 /* The version of this header; as a number 0xMMmmpp, to be compared. */
-#define DL_VERSION        "0.4.0"
-#define DL_VERSION_NUMBER 0x000400
+#define DL_VERSION        "0.5.0"
+#define DL_VERSION_NUMBER 0x000500
 
 /* The version that the program was compiled with, DL_VERSION. */
 static inline const char *dl_version(void)
@@ -93,6 +93,11 @@ static inline const char *dl_version(void)
  * each of them adds 1 to the token's errors, which end at 255; if it was one of
  * the two logins and the errors are then at or above the limit, the token is
  * locked by errors at now.
+ *
+ * A double press is no error: where the used password of one of the two logins
+ * is that of the step just before the first unused one, the last step accepted,
+ * and that step is in the window, DL_USED leaves all but what a wait that has
+ * run out sets, and locks nothing, whatever the errors are.
  */
 #define DL_USED             0x8004 /* only steps before the first unused one match: dl_check and the two logins */
 #define DL_WRONG            0x8002 /* no step of the window matches: the same */

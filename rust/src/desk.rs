@@ -114,7 +114,8 @@ impl<'a> Desk<'a> {
         Call::Load.answer(ffi::load(self.table, token))
     }
 
-    /// Checks a password against the small window of a ready token. The token is locked if its errors reach the limit.
+    /// Checks a password against the small window of a ready token. The token is locked if its errors reach the limit. A double
+    /// press, with the password of the last accepted step, is refused as [`Used`](crate::Refusal::Used) and is no error.
     pub fn login(&mut self, serial: Serial, now: Seconds, password: impl AsRef<[u8]>) -> Answer<Accepted> {
         self.single(Call::Login, ffi::LOGIN, serial, now, password.as_ref())
     }

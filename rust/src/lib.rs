@@ -37,8 +37,9 @@
 //! let accepted = desk.login(token.serial, later, code)?;
 //! assert_eq!(accepted.step, later.step(30));
 //!
-//! // No code is accepted twice.
+//! // No code is accepted twice. To press Sign twice is no error.
 //! assert_eq!(desk.login(token.serial, later, code), Err(Refusal::Used));
+//! assert_eq!(desk.query(token.serial, later)?.errors, 0);
 //! # Ok::<(), Refusal>(())
 //! ```
 #![deny(missing_docs, unsafe_code)]

@@ -37,7 +37,7 @@ impl Error for BadArgument {}
 ///
 /// Those up to [`DamagedRow`](Refusal::DamagedRow) leave the table as it was, those up to
 /// [`ManagementNextWanted`](Refusal::ManagementNextWanted) but for a wait that has run out. The others add 1 to the token's errors,
-/// which end at 255.
+/// which end at 255; only a double press, a case of [`Used`](Refusal::Used), adds none.
 ///
 /// ```
 /// # use dykeladder::Refusal;
@@ -86,6 +86,9 @@ pub enum Refusal {
     /// As [`NextWanted`](Refusal::NextWanted), of unlock and resume.
     ManagementNextWanted = 0x8101,
     /// Login, challenge login: only steps before the first unused one have the password.
+    ///
+    /// If the step just before it, the last one accepted, has the password and is in the window, this is a double press: no error is
+    /// added and the token is not locked, whatever its errors are. An older step is an error.
     Used = 0x8004,
     /// Login, challenge login: no step of the window has the password.
     Wrong = 0x8002,
