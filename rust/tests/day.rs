@@ -37,6 +37,8 @@ fn signs(desk: &mut Desk<'_>) {
     assert_eq!(desk.login(FIRST, NOW, shown(36)), Err(Refusal::Used));
     assert_eq!(desk.login(FIRST, NOW, shown(37)), accepted(37, 2));
     assert_eq!(desk.login(FIRST, NOW, shown(37)), Err(Refusal::Used));
+    assert_eq!(desk.query(FIRST, NOW), status(State::Ready, 0, 1060), "a double press is no error");
+    assert_eq!(desk.login(FIRST, NOW, shown(36)), Err(Refusal::Used), "an older step is one");
     assert_eq!(desk.activate(SECOND, NOW, shown(36), shown(37)), accepted(37, 2), "used by the other token only");
     assert_eq!(desk.query(FIRST, NOW), status(State::Ready, 1, 1060));
 }
