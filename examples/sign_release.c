@@ -14,7 +14,7 @@
 #include <stdlib.h>
 #include <string.h>
 
-enum { ROWS = 4, DIGITS = 6, PERIOD = 30, LIMIT = 3, WAIT = 300 };
+enum { ROWS = 4, DIGITS = 6, PERIOD = 30, LIMIT = 2, WAIT = 300 };
 
 static const uint64_t serial = 4711, expiry = 2000000000;
 static const uint8_t key[] = "the captain's own secret";
@@ -77,17 +77,17 @@ static void sign_a_release(void)
     struct code code = shown(now, "");
     say("sign a release with the code on the display", sign(code));
     printf("            the code was that of step %" PRId64 ", %" PRId64 " from the clock's\n", values[0], values[1]);
-    say("sign again with the same code", sign(code));
+    say("press Sign twice: refused, and no error", sign(code));
 }
 
-/* The used code was the first error, and LIMIT errors without a success between them lock the token. */
+/* LIMIT errors without a success between them lock the token. */
 static void lock_by_errors(void)
 {
     now += PERIOD;
     struct code right = shown(now, ""), wrong = right;
     wrong.digits[0] = right.digits[0] == '9' ? '0' : right.digits[0] + 1;
-    say("mistype the code, the second error", sign(wrong));
-    say("mistype it again, the third: this locks", sign(wrong));
+    say("mistype the code, the first error", sign(wrong));
+    say("mistype it again, the second: this locks", sign(wrong));
     say("type the right code, too late", sign(right));
 }
 
