@@ -153,8 +153,8 @@ struct peer_asked {
     struct peer_typed password, following;
 };
 
-// What a check finds: DL_DONE with the accepted step, DL_NEXT_WANTED, DL_USED or DL_WRONG; how many passwords it computed, and how many fresh
-// steps match.
+// What a check finds: DL_DONE with the accepted step, DL_NEXT_WANTED, DL_USED, of one password with the last step that matches, or DL_WRONG; how
+// many passwords it computed, and how many fresh steps match.
 struct peer_found {
     uint16_t code;
     int64_t accepted;
@@ -276,6 +276,9 @@ static inline uint16_t peer_serve(struct peer_row *row, const struct desk_call *
     }
     if (found.code == DL_NEXT_WANTED)
         return desk_next_code(call->name);
+    // a double press is no error
+    if (found.code == DL_USED && desk_is_login(call->name) && (uint64_t)found.accepted + 1 == be64toh(row->next))
+        return DL_USED;
     peer_add_error(row, call);
     return found.code == DL_USED ? desk_used_code(call->name) : desk_wrong_code(call->name);
 }
