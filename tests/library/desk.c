@@ -1,6 +1,7 @@
 // The desk over tables of tokens, through the C interface, compared with the one of desk_reference.h: lists of calls, damaged
 // tables, bad arguments. Each test prints how often each answer came up, and fails if one that it is made for never did.
-//   desk         the full run: 20,000 lists on 1 to 8 zero rows, 100,000 on tokens with one password at two steps, and others
+//   desk         the full run: 20,000 lists on 1 to 8 zero rows, 100,000 on tokens with one password at two steps, 85,000 with double presses, and
+//                others
 //   desk COUNT   the short run, for valgrind: fewer lists, every table in exactly its length, no long buffers
 #define _DEFAULT_SOURCE
 #include "collision_lists.h"

@@ -12,7 +12,7 @@
 enum { PRESSES_AT_LEAST = 2000 };
 
 static long presses[2][2][2]; // by call, kind and algorithm
-static long presses_at_limit, presses_after_a_wait, older_steps;
+static long presses_at_limit, presses_after_a_wait, presses_while_locked, older_steps;
 
 // The row as it was before the press.
 static inline void count_press(const struct desk_call *call, const uint8_t *row)
@@ -58,6 +58,7 @@ static inline uint16_t run_press_call(const struct desk_call *call, size_t rows)
     const uint8_t *row = desk_find(table_before, rows * DL_ROW_BYTES, call->serial);
     int is_press = code == 0x8004 && desk_is_press(row, call);
     older_steps += code == 0x8004 && !is_press;
+    presses_while_locked += code == 0x8404 && desk_is_press(row, call);
     if (is_press) {
         count_press(call, row);
         run.presses++;
@@ -171,6 +172,7 @@ static inline void pressed_often(void)
         at_least(PRESSES_AT_LEAST, presses[i / 4][i / 2 % 2][i % 2], names[i]);
     at_least(PRESSES_AT_LEAST, presses_at_limit, "with errors at the limit or above");
     at_least(PRESSES_AT_LEAST, presses_after_a_wait, "after a wait");
+    at_least(PRESSES_AT_LEAST, presses_while_locked, "times 8404 in their place");
     at_least(PRESSES_AT_LEAST, older_steps, "times 8004 with an error");
     at_least(PRESSES_AT_LEAST, lists_idled, "lists with an activate in the place of each press, and the same");
     at_least(PRESSES_AT_LEAST, lists_struck, "lists without their presses, and the same");
