@@ -3,7 +3,7 @@ use Rattle.token.proofs.states.repeated.Statement.{statement}
 use Rattle.token.proofs.states.repeated.Tie as tie
 
 returns : tie.Need-returns
-returns c = search needs
+returns c = rw (c .if1 .taken)
 
 failed-requires : tie.Need-failed-requires
 failed-requires c κs = search needs
