@@ -1,5 +1,4 @@
 -- The double press (document 02, Ask 4) at the desk, as lines of data with one proof: of the candidates 15 to 19, 16 is the one before the first unused step.
-use Prim.Native.Nat.{ℕ, _+_, _*_, _%_}
 use mathlib.Core.Path.{_≡_, refl}
 use mathlib.Core.Bool.{true, _&&_}
 use mathlib.Core.List.{List, [], _∷_}

@@ -1,13 +1,13 @@
 -- One double press: it finds its token ready, leaves of the row only a wait run out, and so does the idle call in its place.
-use Prim.Native.Nat.{ℕ, _+_, _≤_}
-use mathlib.Core.Path.{_≡_, refl, sym, ap, _∙_}
+use Prim.Native.Nat.{ℕ, _+_, _≤_, _<_}
+use mathlib.Core.Path.{_≡_, refl, sym, _∙_}
 use mathlib.Core.Bool.{true, false, _&&_}
 use mathlib.Core.List.{List, []}
 use mathlib.Core.Logic.{inl}
 use native.Mathlib.Omega.{arith}
-use borrow.Author.Tests.{eqb-true, leb-true}
+use borrow.Author.Tests.{leb-true}
 use lib.Dec.{eqb, leb}
-use lib.ListN.{length, set, length-set}
+use lib.ListN.{length, getD, set, length-set}
 use lib.Seq.{getD-set-same, getD-set-other}
 use Rattle.words.specs.Bytes.{AreBytes}
 use Rattle.words.specs.BytesLaws.{getD-putBe}
@@ -20,12 +20,10 @@ use Rattle.window.specs.declared.asked.Asked.{Asked}
 use Rattle.window.specs.PasswordAt.{PasswordRule}
 use Rattle.window.specs.Asked.{oneAsked}
 use Rattle.row.specs.declared.Row.{Row}
-use Rattle.row.specs.declared.reading.Place.{Place}
 use Rattle.row.specs.Row.{rowBytes, rowAt}
 use Rattle.row.specs.Table.{findRow, located, storeRow}
 use Rattle.row.specs.FoundLaws.{found-within}
 use Rattle.row.specs.StoreLaws.{store-same}
-use Rattle.token.specs.declared.answers.Answer.{Answer}
 use Rattle.token.specs.declared.lines.Fails.{Fails}
 use Rattle.token.specs.declared.lines.Needs.the-variants.{From}
 use Rattle.token.specs.declared.lines.Way.the-variants.{Checks}
@@ -42,39 +40,39 @@ use Rattle.desk.specs.BranchLaws.{if-single, Judged, Reached, rowNow, lineFor, 
 use Rattle.desk.specs.Press.{lastHas}
 use Rattle.desk.specs.PressLaws.{used-unpressed}
 use Rattle.desk.specs.Demand1.{pressAt}
-use Rattle.presses.specs.Presses.{ofRow, isPress, LeavesReady, PressLeavesReady, idle, findsLocked}
+use Rattle.presses.specs.Presses.{ofRow, isPress, PressLeavesReady, idle, findsLocked}
 
 -- ---- a press leaves of the row that it reaches only a wait run out
 
-module _ (passwords : PasswordRule) (request : Request) (serial clock : ℕ) (s : List ℕ) where
-  pub record Forgiven (x : Result) : Type 0 where
+module _ (passwords : PasswordRule) (serial clock : ℕ) (s : List ℕ) where
+  pub record Forgiven (request : Request) (x : Result) : Type 0 where
     pub at : ℕ
     pub reached : Reached request serial clock s at
     pub ready : rowNow s at clock .state ≡ 2
     pub answer : numberOf (x .answer) ≡ 0x8004
     pub table : x .table ≡ storeRow s at (rowNow s at clock)
 
-  abbrev IfPress : Result → Type 0
-  IfPress x = eqb (numberOf (x .answer)) 0x8004 ≡ true → ofRow (findRow rowBytes s serial) (pressAt passwords request clock s) ≡ true → Forgiven x
+  abbrev IfPress : Request → Result → Type 0
+  IfPress request x = eqb (numberOf (x .answer)) 0x8004 ≡ true → ofRow (findRow rowBytes s serial) (pressAt passwords request clock s) ≡ true → Forgiven request x
 
   -- no press has another number
-  other : {x : Result} → eqb (numberOf (x .answer)) 0x8004 ≡ false → IfPress x
-  other f t p = clash t f
+  other : (request : Request) {x : Result} → eqb (numberOf (x .answer)) 0x8004 ≡ false → IfPress request x
+  other request f t p = clash t f
 
-  module _ (at : ℕ) where
+  module _ (request : Request) (at : ℕ) where
     abbrev Judges : Line → Asked → Fails → Outcome → Type 0
-    Judges l asked f o = Judged l (rowNow s at clock) clock (λ d. IfPress (stored s at d)) asked f o
+    Judges l asked f o = Judged l (rowNow s at clock) clock (λ d. IfPress request (stored s at d)) asked f o
 
     elsewhere-judged : (l : Line) (asked : Asked) (f : Fails) (o : Outcome) → eqb (l .success) 0x8004 ≡ false → eqb (refusalNumber (f .several)) 0x8004 ≡ false
         → eqb (refusalNumber (f .used)) 0x8004 ≡ false → eqb (refusalNumber (f .wrong)) 0x8004 ≡ false → Judges l asked f o
     elsewhere-judged l asked f o success several used wrong =
         record {
-          expired = λ t. other refl;
-          accepted = λ t a e. other success;
-          several = if-single asked (λ t e. other several);
-          again = λ t e. other used;
-          used = λ t e. other used;
-          wrong = λ t e. other wrong;
+          expired = λ t. other request refl;
+          accepted = λ t a e. other request success;
+          several = if-single asked (λ t e. other request several);
+          again = λ t e. other request used;
+          used = λ t e. other request used;
+          wrong = λ t e. other request wrong;
         }
 
     -- a login's used password is a press only if it is presented again
@@ -85,9 +83,9 @@ module _ (passwords : PasswordRule) (request : Request) (serial clock : ℕ) (s 
     login-judged asked success challenge p o r t ok same eo apart =
         let state = rowNow s at clock .state in
         record {
-          expired = λ u. other refl;
-          accepted = λ u a e. other apart;
-          several = if-single asked (λ u e. other refl);
+          expired = λ u. other request refl;
+          accepted = λ u a e. other request apart;
+          several = if-single asked (λ u e. other request refl);
           again = λ u e n q.
               record {
                 at = at;
@@ -97,65 +95,67 @@ module _ (passwords : PasswordRule) (request : Request) (serial clock : ℕ) (s 
                 table = refl;
               };
           used = λ u e n q. clash (rw (r .found) at q) (same ∙ used-unpressed passwords _ _ _ challenge p ok (rw (waited-track (rowAt s at) clock) at (sym eo ∙ e)));
-          wrong = λ u e. other refl;
+          wrong = λ u e. other request refl;
         }
 
-made-press : (passwords : PasswordRule) (request : Request) (serial clock : ℕ) (s : List ℕ) (at : ℕ) → Reached request serial clock s at
-    → allowed (lineFor request .needs) (rowNow s at clock .state) ≡ true → Made passwords request s at clock (IfPress passwords request serial clock s)
-unfolding requestOk
-made-press passwords (Request.login p) serial clock s at r t = login-judged passwords _ serial clock s at _ 0x0001 [] p _ r t (r .fit .arguments) refl refl refl
-made-press passwords (Request.challengeLogin q p) serial clock s at r t =
-    login-judged passwords _ serial clock s at _ 0x0002 q p _ r t (and-right (challengeGiven q) _ (r .fit .arguments)) refl refl refl
-made-press passwords (Request.activate p f) serial clock s at r t = elsewhere-judged passwords _ serial clock s at _ _ _ _ refl refl refl refl
-made-press passwords Request.lock serial clock s at r t = other passwords _ serial clock s refl
-made-press passwords (Request.unlock p) serial clock s at r t = elsewhere-judged passwords _ serial clock s at _ _ _ _ refl refl refl refl
-made-press passwords Request.suspend serial clock s at r t = other passwords _ serial clock s refl
-made-press passwords (Request.resume p) serial clock s at r t = elsewhere-judged passwords _ serial clock s at _ _ _ _ refl refl refl refl
-made-press passwords (Request.sync choice p f) serial clock s at r t = elsewhere-judged passwords _ serial clock s at _ _ _ _ refl refl refl refl
-made-press passwords Request.void serial clock s at r t = other passwords _ serial clock s refl
-made-press passwords Request.query serial clock s at r t = other passwords _ serial clock s refl
+  made-press : (request : Request) (at : ℕ) → Reached request serial clock s at → allowed (lineFor request .needs) (rowNow s at clock .state) ≡ true
+      → Made passwords request s at clock (IfPress request)
+  unfolding requestOk
+  made-press (Request.login p) at r t = login-judged _ at _ 0x0001 [] p _ r t (r .fit .arguments) refl refl refl
+  made-press (Request.challengeLogin q p) at r t = login-judged _ at _ 0x0002 q p _ r t (and-right (challengeGiven q) _ (r .fit .arguments)) refl refl refl
+  made-press (Request.activate p f) at r t = elsewhere-judged _ at _ _ _ _ refl refl refl refl
+  made-press Request.lock at r t = other _ refl
+  made-press (Request.unlock p) at r t = elsewhere-judged _ at _ _ _ _ refl refl refl refl
+  made-press Request.suspend at r t = other _ refl
+  made-press (Request.resume p) at r t = elsewhere-judged _ at _ _ _ _ refl refl refl refl
+  made-press (Request.sync choice p f) at r t = elsewhere-judged _ at _ _ _ _ refl refl refl refl
+  made-press Request.void at r t = other _ refl
+  made-press Request.query at r t = other _ refl
 
-pub press-forgiven : (passwords : PasswordRule) (request : Request) (serial clock : ℕ) (s : List ℕ) → isPress passwords (DeskCall.named request serial clock) s ≡ true
-    → Forgiven passwords request serial clock s (deskAfter passwords (DeskCall.named request serial clock) s)
-unfolding isPress
-press-forgiven passwords request serial clock s t =
-    named-holds passwords s (IfPress passwords request serial clock s) request serial clock
-    (record {
-      bad = λ t. other passwords request serial clock s refl;
-      unknown = λ fit e. other passwords request serial clock s refl;
-      damaged = λ fit at e f. other passwords request serial clock s refl;
-      unfit = λ at r f.
-          other passwords request serial clock s
-          (by-state (λ n. eqb (refusalNumber (stateRefusal n)) 0x8004 ≡ false) refl refl refl refl refl refl (rowNow s at clock .state) (reached-standing r));
-      made = λ at r t. made-press passwords request serial clock s at r t;
-    })
-    (and-left _ _ t) (and-right (eqb (numberOf (deskAfter passwords (DeskCall.named request serial clock) s .answer)) 0x8004) _ t)
+  pub press-forgiven : (request : Request) → isPress passwords (DeskCall.named request serial clock) s ≡ true → Forgiven request (deskAfter passwords (DeskCall.named request serial clock) s)
+  unfolding isPress
+  press-forgiven request t =
+      named-holds passwords s (IfPress request) request serial clock
+      (record {
+        bad = λ t. other request refl;
+        unknown = λ fit e. other request refl;
+        damaged = λ fit at e f. other request refl;
+        unfit = λ at r f.
+            other request
+            (by-state (λ n. eqb (refusalNumber (stateRefusal n)) 0x8004 ≡ false) refl refl refl refl refl refl (rowNow s at clock .state) (reached-standing r));
+        made = made-press request;
+      })
+      (and-left _ _ t) (and-right (eqb (numberOf (deskAfter passwords (DeskCall.named request serial clock) s .answer)) 0x8004) _ t)
 
 -- ---- the token is ready, with its errors
 
 module _ (s : List ℕ) (at : ℕ) (r : Row) (room : at + rowBytes ≤ length s) where
+  abbrev headStored : List ℕ
+  headStored = set (set s (at + 0) (r .state)) (at + 6) (r .errors)
+
+  -- before the first unused step only the state and the errors are stored
+  stored-head : (n : ℕ) → n < 48 → getD (storeRow s at r) (at + n) 0 ≡ getD headStored (at + n) 0
+  unfolding storeRow
+  stored-head n l =
+      getD-putBe 8 _ (at + 80) _ (at + n) (inl (omega arith))
+      ∙ getD-putBe 8 _ (at + 72) _ (at + n) (inl (omega arith))
+      ∙ getD-putBe 2 _ (at + 56) _ (at + n) (inl (omega arith))
+      ∙ getD-putBe 8 _ (at + 48) _ (at + n) (inl (omega arith))
+
   stored-state : rowAt (storeRow s at r) at .state ≡ r .state
-  unfolding rowAt storeRow
+  unfolding rowAt
   stored-state =
-      getD-putBe 8 _ (at + 80) _ (at + 0) (inl (omega arith))
-      ∙ getD-putBe 8 _ (at + 72) _ (at + 0) (inl (omega arith))
-      ∙ getD-putBe 2 _ (at + 56) _ (at + 0) (inl (omega arith))
-      ∙ getD-putBe 8 _ (at + 48) _ (at + 0) (inl (omega arith))
+      stored-head 0 (omega arith)
       ∙ getD-set-other (set s (at + 0) (r .state)) (at + 6) (at + 0) (r .errors) 0 (λ e. omega arith)
       ∙ getD-set-same s (at + 0) (r .state) 0 (omega arith)
 
   stored-errors : rowAt (storeRow s at r) at .errors ≡ r .errors
-  unfolding rowAt storeRow
-  stored-errors =
-      getD-putBe 8 _ (at + 80) _ (at + 6) (inl (omega arith))
-      ∙ getD-putBe 8 _ (at + 72) _ (at + 6) (inl (omega arith))
-      ∙ getD-putBe 2 _ (at + 56) _ (at + 6) (inl (omega arith))
-      ∙ getD-putBe 8 _ (at + 48) _ (at + 6) (inl (omega arith))
-      ∙ getD-set-same (set s (at + 0) (r .state)) (at + 6) (r .errors) 0 (rw length-set (omega arith))
+  unfolding rowAt
+  stored-errors = stored-head 6 (omega arith) ∙ getD-set-same (set s (at + 0) (r .state)) (at + 6) (r .errors) 0 (rw length-set (omega arith))
 
 pub press-leaves-ready : PressLeavesReady
 press-leaves-ready passwords request serial clock s t =
-    let f = press-forgiven passwords request serial clock s t in
+    let f = press-forgiven passwords serial clock s request t in
     let w = rowNow s (f .at) clock in
     let room = found-within rowBytes s serial (omega arith) (f .at) (f .reached .found) in (
       f .at,
@@ -180,7 +180,7 @@ module _ (passwords : PasswordRule) where
   pub press-is-idle : (call : DeskCall) (s : List ℕ) → isPress passwords call s ≡ true → deskAfter passwords (idle call) s .table ≡ deskAfter passwords call s .table
   press-is-idle (DeskCall.load p key) s t = refl
   press-is-idle (DeskCall.named request serial clock) s t =
-      let f = press-forgiven passwords request serial clock s t in
+      let f = press-forgiven passwords serial clock s request t in
       idle-table request serial clock s (f .at) (f .reached) (f .ready) ∙ sym (f .table)
 
   unlocked-waits-not : (r : Row) (clock : ℕ) → eqb (r .state) 3 ≡ false → waited r clock ≡ r
@@ -192,6 +192,6 @@ module _ (passwords : PasswordRule) where
   unfolding isPress
   press-is-nothing (DeskCall.load p key) s bytes t e = clash t refl
   press-is-nothing (DeskCall.named request serial clock) s bytes t e =
-      let f = press-forgiven passwords request serial clock s t in
+      let f = press-forgiven passwords serial clock s request t in
       let unlocked : eqb (rowAt s (f .at) .state) 3 ≡ false = rw (f .reached .found) at e in
       f .table ∙ rw (unlocked-waits-not (rowAt s (f .at)) clock unlocked) (store-same s (f .at) bytes)

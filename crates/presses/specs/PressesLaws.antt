@@ -1,13 +1,11 @@
 -- Lists of calls with and without double presses (`Presses`), by what one press comes to.
 use Prim.Native.Nat.{ℕ}
 use mathlib.Core.Path.{_≡_, refl, subst}
-use mathlib.Core.Bool.{true}
 use mathlib.Core.List.{List, [], _∷_}
 use Rattle.words.specs.BoolLaws.{by-test}
 use Rattle.token.specs.declared.answers.Answer.{Answer}
-use Rattle.desk.specs.Requests.{DeskCall}
 use Rattle.desk.specs.Desk.{deskAfter, run}
-use Rattle.presses.specs.Presses.{isPress, others, idle, idled, PressesOnlyWait, struck, PressesStruck}
+use Rattle.presses.specs.Presses.{isPress, others, idled, PressesOnlyWait, struck, PressesStruck}
 use Rattle.presses.specs.BytesKeptLaws.{call-keeps-bytes}
 use Rattle.presses.specs.OnePressLaws.{press-is-idle, press-is-nothing}
 
