@@ -144,13 +144,23 @@ module _ (passwords : PasswordRule) (l : Loaded) (m : Marks) (r : Reading) (cloc
     pub again : o ≡ Outcome.Again → pressed passwords l m request clock ≡ isLogin request
     pub used : o ≡ Outcome.Used → pressed passwords l m request clock ≡ false
 
-  login-used : (challenge password : List ℕ) → single passwords l m r clock Small challenge password ≡ Outcome.Used → lastHas passwords l m clock challenge password ≡ false
-  login-used challenge password e = single-used (trackOf l m) clock Small _ e
+  -- of a login the password that is presented again is pressed
+  module _ (challenge password : List ℕ) where
+    abbrev found : Outcome
+    found = single passwords l m r clock Small challenge password
 
-  login-again : (challenge password : List ℕ) → single passwords l m r clock Small challenge password ≡ Outcome.Again → lastHas passwords l m clock challenge password ≡ true
-  login-again challenge password e = single-again (trackOf l m) clock Small _ e
+    login-used : found ≡ Outcome.Used → lastHas passwords l m clock challenge password ≡ false
+    login-used e = single-used (trackOf l m) clock Small _ e
 
-  -- no login is pressed
+    login-again : found ≡ Outcome.Again → lastHas passwords l m clock challenge password ≡ true
+    login-again e = single-again (trackOf l m) clock Small _ e
+
+    login-checked : {request : Request} {asked : Asked} → isLogin request ≡ true → pressed passwords l m request clock ≡ lastHas passwords l m clock challenge password
+        → (requestOk request ≡ true → outcomeOf passwords (trackOf l m) clock (l .key) (challengeOf request) asked ≡ found) → Checked request asked found
+    login-checked login press same =
+        record { acceptable = single-accepts (trackOf l m) clock Small _; same = same; again = λ e. press ∙ login-again e ∙ sym login; used = λ e. press ∙ login-used e }
+
+  -- of any other call none is
   module _ {request : Request} {size : Size} (login : isLogin request ≡ false) (none : pressed passwords l m request clock ≡ false) where
     one-checked : (password : List ℕ) → (requestOk request ≡ true → passwordOk password ≡ true)
         → Checked request (One size (asPassword password)) (single passwords l m r clock size [] password)
@@ -180,21 +190,10 @@ module _ (passwords : PasswordRule) (l : Loaded) (m : Marks) (r : Reading) (cloc
     pub by-line : (request : Request) → P request (requested passwords l m r clock request)
     unfolding requestOk
     by-line (Request.login password) =
-        checks _ (2 ∷ []) 0x0001 atLogin (One Small (asPassword password)) (single passwords l m r clock Small [] password) (search) (search)
-        (record {
-          acceptable = single-accepts (trackOf l m) clock Small _;
-          same = λ t. rw (digits-back password t);
-          again = login-again [] password;
-          used = login-used [] password;
-        })
+        checks _ (2 ∷ []) 0x0001 atLogin (One Small (asPassword password)) _ (search) (search) (login-checked [] password refl refl (λ t. rw (digits-back password t)))
     by-line (Request.challengeLogin challenge password) =
-        checks _ (2 ∷ []) 0x0002 atLogin (Challenged Small (asPassword password)) (single passwords l m r clock Small challenge password) (search) (search)
-        (record {
-          acceptable = single-accepts (trackOf l m) clock Small _;
-          same = λ t. rw (digits-back password (and-right (challengeGiven challenge) _ t));
-          again = login-again challenge password;
-          used = login-used challenge password;
-        })
+        checks _ (2 ∷ []) 0x0002 atLogin (Challenged Small (asPassword password)) _ (search) (search)
+        (login-checked challenge password refl refl (λ t. rw (digits-back password (and-right (challengeGiven challenge) _ t))))
     by-line (Request.activate password following) =
         checks _ (1 ∷ []) 0x0101 elsewhere (Two Large (asPassword password) (asPassword following)) _ (search) (search) (two-checked refl refl password following (λ t. t))
     by-line Request.lock = changes _ (2 ∷ []) 0x0102 (search)
