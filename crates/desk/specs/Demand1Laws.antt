@@ -7,7 +7,7 @@ use Rattle.words.specs.Lists.{oneOf}
 use Rattle.words.specs.BoolLaws.{and-left, and-right, clash}
 use Rattle.window.specs.PasswordAt.{PasswordRule}
 use Rattle.row.specs.declared.reading.Place.{Place}
-use Rattle.row.specs.Row.{rowBytes, rowAt}
+use Rattle.row.specs.Row.{rowBytes}
 use Rattle.row.specs.Table.{findRow, storeRow}
 use Rattle.token.specs.declared.answers.Refusal.{Refusal}
 use Rattle.token.specs.declared.answers.Answer.{Answer}
@@ -15,11 +15,10 @@ use Rattle.token.specs.Lines.{allowed, stateRefusal}
 use Rattle.token.specs.Codes.{refusalNumber, numberOf}
 use Rattle.token.specs.States.{failed}
 use Rattle.token.specs.Deciding.{refusing}
-use Rattle.token.specs.StatesLaws.{waited-track}
 use Rattle.desk.specs.Requests.{Request, DeskCall, challengeGiven, requestOk}
 use Rattle.desk.specs.Desk.{Result, stored}
 use Rattle.desk.specs.BranchLaws.{rowNow, lineFor, Made, load-holds, named-holds, Standing, reached-standing, by-state}
-use Rattle.desk.specs.PressLaws.{again-pressed, used-unpressed}
+use Rattle.desk.specs.PressLaws.{used-unpressed-now, again-pressed-now}
 use Rattle.desk.specs.Demand1.{codesOf, atPlace, waitCodes, requestBytes, pressAt, bytesFor, Demand1}
 
 -- the refusal is listed for the request, and leaves only a wait run out
@@ -67,8 +66,8 @@ module _ (passwords : PasswordRule) (s : List ℕ) (at clock : ℕ) where
         expired = search;
         accepted = search;
         several = search;
-        again = λ t e. (refl, again-left _ (again-pressed passwords _ _ _ [] p ok (rw (waited-track (rowAt s at) clock) at e)));
-        used = λ t e. (refl, used-left _ (used-unpressed passwords _ _ _ [] p ok (rw (waited-track (rowAt s at) clock) at e)));
+        again = λ t e. (refl, again-left _ (again-pressed-now passwords s at clock [] p ok e));
+        used = λ t e. (refl, used-left _ (used-unpressed-now passwords s at clock [] p ok e));
         wrong = search;
       }
   made-fits (Request.challengeLogin q p) ok =
@@ -77,8 +76,8 @@ module _ (passwords : PasswordRule) (s : List ℕ) (at clock : ℕ) where
         expired = search;
         accepted = search;
         several = search;
-        again = λ t e. (refl, again-left _ (again-pressed passwords _ _ _ q p typed (rw (waited-track (rowAt s at) clock) at e)));
-        used = λ t e. (refl, used-left _ (used-unpressed passwords _ _ _ q p typed (rw (waited-track (rowAt s at) clock) at e)));
+        again = λ t e. (refl, again-left _ (again-pressed-now passwords s at clock q p typed e));
+        used = λ t e. (refl, used-left _ (used-unpressed-now passwords s at clock q p typed e));
         wrong = search;
       }
   made-fits (Request.activate password following) ok = search

@@ -1,10 +1,10 @@
--- What a checked success marks of an event token (document 01, Part 3): next, errors and last use; d stays 0. An event token's steps are too many to
+-- What a checked success marks of an event token (document 01, Part 3): next, errors and last use; d stays 0. A double press marks nothing. An event token's steps are too many to
 -- be computed one by one, so that the check's outcome comes from its meaning, and the rest computes.
 use Prim.Native.Nat.{ℕ, _+_, _-_, _≤_, _<_}
 use mathlib.Core.Path.{_≡_, refl}
 use mathlib.Core.Bool.{Bool, true, false, not}
 use mathlib.Core.List.{[], _∷_}
-use mathlib.Core.Logic.{_⊎_, inl, inr}
+use mathlib.Core.Logic.{_⊎_, inl, inr, ⊎-elim}
 use native.Mathlib.Omega.{arith}
 use borrow.Author.Tests.{not-true, le-ltb}
 use lib.Dec.{leb}
@@ -17,7 +17,7 @@ use Rattle.otp.specs.Password.{decimals}
 use Rattle.otp.specs.Numbers.{numberFrom}
 use Rattle.otp.specs.Typed.{passwordOk, digitsOf}
 use Rattle.window.specs.declared.Size.the-variants.{Small, Large}
-use Rattle.window.specs.declared.Outcome.the-variants.{Accepted}
+use Rattle.window.specs.declared.Outcome.the-variants.{Accepted, Again}
 use Rattle.window.specs.Window.{eventCandidate, candidate}
 use Rattle.window.specs.WindowTable.{eventTrack}
 use Rattle.window.specs.Range.{firstStep, endStep}
@@ -36,7 +36,7 @@ use Rattle.token.specs.Deciding.{deciding, decided}
 use Rattle.desk.specs.Requests.{Request, DeskCall, tableOk, requestOk}
 use Rattle.desk.specs.Desk.{servedAt, deskAfter}
 use Rattle.desk.specs.Demand1Bytes.{state, errors, next, lastUse}
-use Rattle.desk.specs.CallLines.{rowBy, cell, bySteps, cellHolds}
+use Rattle.desk.specs.CallLines.{rowBy, cell, no, bySteps, cellHolds}
 
 -- step s of the token has this password
 abbrev has : ℕ → ℕ → Bool
@@ -78,6 +78,27 @@ pub event-login-marks : cellHolds (deskAfter bySteps (DeskCall.named (Request.lo
 unfolding beAt beBytes putBe sameBytes allZero allWithin decimals passwordOk numberFrom digitsOf rowAt numberTests numbersOk zerosOk wellFormed hasSerial firstRow findRow located storeRow
     signedOf valuesOf waitOver waited withState accepted deciding decided servedAt tableOk requestOk deskAfter
 event-login-marks = rw nine-accepted refl
+
+-- ---- a login with step 6, the last used one: a double press (document 02, Ask 4)
+
+abbrev six : ℕ → Bool
+six = freshHit (singleHit (candidate (eventTrack 7) 1059 Small) (has 6)) 7
+
+six-below : (r : ℕ) → r < 17 → six r ≡ false
+unfolding candidate eventCandidate sameBytes decimals
+six-below = none-below six 17 refl
+
+six-past : (r : ℕ) → 17 ≤ r → six r ≡ false
+six-past r l = rw (past-candidates r l) (and-false (leb 7 r))
+
+six-again : singleCheck (eventTrack 7) 1059 Small (has 6) ≡ Again
+unfolding candidate eventCandidate sameBytes decimals
+six-again = single-means (eventTrack 7) 1059 Small (has 6) .again .1 (λ r. ⊎-elim (six-below r) (six-past r) (order r 17)) 6 refl
+
+pub event-press-forgiven : cellHolds (deskAfter bySteps (DeskCall.named (Request.login (decimals 6 6)) 9 1059) (rowBy 1 0 2 2 7 0)) (rowBy 1 0 2 2 7 0) (no 0x8004) ≡ true
+unfolding beAt beBytes putBe sameBytes allZero allWithin decimals passwordOk numberFrom digitsOf rowAt numberTests numbersOk zerosOk wellFormed hasSerial firstRow findRow located storeRow
+    waitOver waited deciding decided servedAt tableOk requestOk deskAfter
+event-press-forgiven = rw six-again refl
 
 -- ---- an activation with steps 8 and 9
 
