@@ -32,13 +32,12 @@ use Rattle.token.specs.declared.lines.Line.{Line}
 use Rattle.token.specs.Lines.{ready, atLogin, listed, allowed, stateRefusal}
 use Rattle.token.specs.Codes.{refusalNumber, numberOf}
 use Rattle.token.specs.States.{waitOver, waited}
-use Rattle.token.specs.StatesLaws.{waited-track}
 use Rattle.token.specs.Deciding.{deciding, decided}
 use Rattle.desk.specs.Requests.{Request, DeskCall, challengeGiven, requestOk}
 use Rattle.desk.specs.Desk.{Result, secretAt, stored, servedAt, deskAfter}
 use Rattle.desk.specs.BranchLaws.{if-single, Judged, Reached, rowNow, lineFor, Made, named-holds, reached-standing, by-state}
 use Rattle.desk.specs.Press.{lastHas}
-use Rattle.desk.specs.PressLaws.{used-unpressed}
+use Rattle.desk.specs.PressLaws.{used-unpressed-now}
 use Rattle.desk.specs.Demand1.{pressAt}
 use Rattle.presses.specs.Presses.{ofRow, isPress, PressLeavesReady, idle, findsLocked}
 
@@ -94,7 +93,7 @@ module _ (passwords : PasswordRule) (serial clock : ℕ) (s : List ℕ) where
                 answer = refl;
                 table = refl;
               };
-          used = λ u e n q. clash (rw (r .found) at q) (same ∙ used-unpressed passwords _ _ _ challenge p ok (rw (waited-track (rowAt s at) clock) at (sym eo ∙ e)));
+          used = λ u e n q. clash (rw (r .found) at q) (same ∙ used-unpressed-now passwords s at clock challenge p ok (sym eo ∙ e));
           wrong = λ u e. other request refl;
         }
 
