@@ -231,27 +231,30 @@ module _ (Q : Answer → Type 0) where
         })
 
 -- what holds of each refusal
-pub by-refusal : (P : Refusal → Type 0) → P Refusal.BadArgument → P Refusal.AlreadyLoaded → P Refusal.TableFull → P Refusal.Unknown → P Refusal.Damaged → P Refusal.Ready → P Refusal.Locked → P Refusal.Suspended
+pub by-refusal : (P : Refusal → Type 0) → P Refusal.BadMessage → P Refusal.BadMac → P Refusal.NoService → P Refusal.BadArgument → P Refusal.AlreadyLoaded → P Refusal.TableFull → P Refusal.Unknown → P Refusal.Damaged → P Refusal.Ready → P Refusal.Locked → P Refusal.Suspended
     → P Refusal.Inactive → P Refusal.Void → P Refusal.Expired → P Refusal.NextAtLogin → P Refusal.NextWanted → P Refusal.UsedAtLogin → P Refusal.Used → P Refusal.WrongAtLogin → P Refusal.Wrong → P Refusal.WrongAtSync
     → (f : Refusal) → P f
-by-refusal P a b c d e f g h i j k l m n o p q r Refusal.BadArgument = a
-by-refusal P a b c d e f g h i j k l m n o p q r Refusal.AlreadyLoaded = b
-by-refusal P a b c d e f g h i j k l m n o p q r Refusal.TableFull = c
-by-refusal P a b c d e f g h i j k l m n o p q r Refusal.Unknown = d
-by-refusal P a b c d e f g h i j k l m n o p q r Refusal.Damaged = e
-by-refusal P a b c d e f g h i j k l m n o p q r Refusal.Ready = f
-by-refusal P a b c d e f g h i j k l m n o p q r Refusal.Locked = g
-by-refusal P a b c d e f g h i j k l m n o p q r Refusal.Suspended = h
-by-refusal P a b c d e f g h i j k l m n o p q r Refusal.Inactive = i
-by-refusal P a b c d e f g h i j k l m n o p q r Refusal.Void = j
-by-refusal P a b c d e f g h i j k l m n o p q r Refusal.Expired = k
-by-refusal P a b c d e f g h i j k l m n o p q r Refusal.NextAtLogin = l
-by-refusal P a b c d e f g h i j k l m n o p q r Refusal.NextWanted = m
-by-refusal P a b c d e f g h i j k l m n o p q r Refusal.UsedAtLogin = n
-by-refusal P a b c d e f g h i j k l m n o p q r Refusal.Used = o
-by-refusal P a b c d e f g h i j k l m n o p q r Refusal.WrongAtLogin = p
-by-refusal P a b c d e f g h i j k l m n o p q r Refusal.Wrong = q
-by-refusal P a b c d e f g h i j k l m n o p q r Refusal.WrongAtSync = r
+by-refusal P x y z a b c d e f g h i j k l m n o p q r Refusal.BadMessage = x
+by-refusal P x y z a b c d e f g h i j k l m n o p q r Refusal.BadMac = y
+by-refusal P x y z a b c d e f g h i j k l m n o p q r Refusal.NoService = z
+by-refusal P x y z a b c d e f g h i j k l m n o p q r Refusal.BadArgument = a
+by-refusal P x y z a b c d e f g h i j k l m n o p q r Refusal.AlreadyLoaded = b
+by-refusal P x y z a b c d e f g h i j k l m n o p q r Refusal.TableFull = c
+by-refusal P x y z a b c d e f g h i j k l m n o p q r Refusal.Unknown = d
+by-refusal P x y z a b c d e f g h i j k l m n o p q r Refusal.Damaged = e
+by-refusal P x y z a b c d e f g h i j k l m n o p q r Refusal.Ready = f
+by-refusal P x y z a b c d e f g h i j k l m n o p q r Refusal.Locked = g
+by-refusal P x y z a b c d e f g h i j k l m n o p q r Refusal.Suspended = h
+by-refusal P x y z a b c d e f g h i j k l m n o p q r Refusal.Inactive = i
+by-refusal P x y z a b c d e f g h i j k l m n o p q r Refusal.Void = j
+by-refusal P x y z a b c d e f g h i j k l m n o p q r Refusal.Expired = k
+by-refusal P x y z a b c d e f g h i j k l m n o p q r Refusal.NextAtLogin = l
+by-refusal P x y z a b c d e f g h i j k l m n o p q r Refusal.NextWanted = m
+by-refusal P x y z a b c d e f g h i j k l m n o p q r Refusal.UsedAtLogin = n
+by-refusal P x y z a b c d e f g h i j k l m n o p q r Refusal.Used = o
+by-refusal P x y z a b c d e f g h i j k l m n o p q r Refusal.WrongAtLogin = p
+by-refusal P x y z a b c d e f g h i j k l m n o p q r Refusal.Wrong = q
+by-refusal P x y z a b c d e f g h i j k l m n o p q r Refusal.WrongAtSync = r
 
 -- ---- a row that is found and well formed is in one of the states 1 to 6
 

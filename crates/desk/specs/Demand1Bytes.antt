@@ -62,7 +62,7 @@ lastUse x = change 80 (beBytes 8 x)
 
 -- the codes that leave all bytes unchanged
 abbrev pub unchangedCodes : List ℕ
-unchangedCodes = 0x9005 ∷ 0x8411 ∷ 0x8410 ∷ 0x8402 ∷ 0x8403 ∷ 0x010b ∷ []
+unchangedCodes = 0x9001 ∷ 0x9002 ∷ 0x9004 ∷ 0x9005 ∷ 0x8411 ∷ 0x8410 ∷ 0x8402 ∷ 0x8403 ∷ 0x010b ∷ []
 
 -- ---- a call that names the token whose row stands at a place of the table s
 

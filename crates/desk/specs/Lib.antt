@@ -1,6 +1,7 @@
 -- The desk (document 01, Part 5).
 pub mod Requests
 pub mod Desk
+pub mod Reads
 pub mod ServingLaws
 pub mod CallsLaws
 pub mod LoadLaws

@@ -37,7 +37,7 @@ abbrev Other : Answer → Type 0
 Other answer = eqb (numberOf answer) 0x8106 ≡ false
 
 refusal-other : (f : Refusal) → Other (Answer.Refused f)
-refusal-other = by-refusal (λ f. Other (Answer.Refused f)) refl refl refl refl refl refl refl refl refl refl refl refl refl refl refl refl refl refl
+refusal-other = by-refusal (λ f. Other (Answer.Refused f)) refl refl refl refl refl refl refl refl refl refl refl refl refl refl refl refl refl refl refl refl refl
 
 success-other : (w : Row) (clock : ℕ) (check : Track → Asked → Outcome) (request : Request) → Succeeds Other (lineFor request) w clock check (lineFor request .way)
 success-other w clock check (Request.login password) = λ a e. refl

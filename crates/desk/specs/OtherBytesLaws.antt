@@ -118,7 +118,7 @@ module _ (s : List ℕ) (at clock : ℕ) (press : Bool) where
       let used = waited-covered (partsOf 0x8004) (besides s at clock press 0x8004 0) refl used-fits in
       let wrong = waited-covered (partsOf 0x8002) (besides s at clock press 0x8002 0) refl login-fits in
       let counted = waited-covered (partsOf 0x8104) (besides s at clock press 0x8104 0) refl refl in
-      by-refusal (λ f. Covered (refusalNumber f) 0) refl refl refl refl refl kept kept kept kept kept kept kept kept used counted wrong counted counted
+      by-refusal (λ f. Covered (refusalNumber f) 0) refl refl refl refl refl refl refl refl kept kept kept kept kept kept kept kept used counted wrong counted counted
 
   abbrev AnswerCovered : Answer → Type 0
   AnswerCovered answer = Covered (numberOf answer) (stepIn answer)

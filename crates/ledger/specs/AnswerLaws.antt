@@ -33,7 +33,7 @@ StepFrom next none = Unit {0}
 StepFrom next (some checked) = next ≤ checked .0 .0
 
 pub refusal-high : (f : Refusal) → leb 0x8000 (refusalNumber f) ≡ true
-refusal-high = by-refusal (λ f. leb 0x8000 (refusalNumber f) ≡ true) refl refl refl refl refl refl refl refl refl refl refl refl refl refl refl refl refl refl
+refusal-high = by-refusal (λ f. leb 0x8000 (refusalNumber f) ≡ true) refl refl refl refl refl refl refl refl refl refl refl refl refl refl refl refl refl refl refl refl refl
 
 module _ (passwords : PasswordRule) (l : Loaded) (m : Marks) (y : Reading) (serial clock : ℕ) where
   -- of an answer to the request: a step in it is fresh, and if it is 010a, then it leaves the token void

@@ -10,6 +10,9 @@ use Rattle.token.specs.declared.answers.Refusal.{Refusal}
 use Rattle.token.specs.declared.answers.Answer.{Answer}
 
 abbrev pub refusalNumber : Refusal → ℕ
+refusalNumber Refusal.BadMessage = 0x9001
+refusalNumber Refusal.BadMac = 0x9002
+refusalNumber Refusal.NoService = 0x9004
 refusalNumber Refusal.BadArgument = 0x9005
 refusalNumber Refusal.AlreadyLoaded = 0x8411
 refusalNumber Refusal.TableFull = 0x8410

@@ -18,6 +18,9 @@ pub enum Content {
 }
 
 pub enum Refusal {
+    BadMessage,
+    BadMac,
+    NoService,
     BadArgument,
     AlreadyLoaded,
     TableFull,

@@ -8,6 +8,9 @@ fn refusal_number(refusal: Refusal) -> u16
     ensures { λ r. ⌜ r ≡ refusalNumber refusal ⌝ }
 {
     match refusal {
+        Refusal::BadMessage => 0x9001,
+        Refusal::BadMac => 0x9002,
+        Refusal::NoService => 0x9004,
         Refusal::BadArgument => 0x9005,
         Refusal::AlreadyLoaded => 0x8411,
         Refusal::TableFull => 0x8410,

@@ -1,0 +1,8 @@
+-- Requests as messages (document 02, Ask 1): messages of GM/T 0021-2012, Annex D.
+pub mod Message
+pub mod Serving
+pub mod Promise
+pub mod PromiseLaws
+pub mod Walking
+pub mod WalkLaws
+pub mod OnlyLaws
