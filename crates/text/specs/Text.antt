@@ -8,6 +8,7 @@ use lib.ListN.{length, drop, replicate}
 use Rattle.bytes.specs.Bytes.{indexOf}
 use Rattle.text.specs.declared.numbers.Number.{Number}
 use Rattle.text.specs.declared.hexadecimal.Decoded.{Decoded}
+use Rattle.text.specs.declared.hexadecimal.HexRead.{HexRead}
 use Rattle.text.specs.declared.fields.Field.{Field}
 use Rattle.text.specs.declared.fields.Split.{Split}
 
@@ -68,6 +69,22 @@ decoded (some b) =
 
 abbrev pub decodedOf : List ℕ → Decoded
 decodedOf s = decoded (hexOf s)
+
+-- what is answered of digits, and the output after it
+pub record HexLeft : Type 0 where
+  pub read : HexRead
+  pub out : List ℕ
+
+abbrev pub hexLeft : HexRead → List ℕ → HexLeft
+hexLeft read out = record { read = read; out = out }
+
+-- the bytes at the front of an output that has room for them; else it stays as it is
+unfoldable pub putFront : Option (List ℕ) → List ℕ → HexLeft
+putFront none out = hexLeft HexRead.Bad out
+putFront (some b) out = cond (leb (length b) (length out)) (hexLeft (HexRead.Bytes (length b)) (b ++ drop (length b) out)) (hexLeft HexRead.Bad out)
+
+abbrev pub hexInto : List ℕ → List ℕ → HexLeft
+hexInto s out = putFront (hexOf s) out
 
 -- ---- fields
 

@@ -7,15 +7,16 @@ use mathlib.Core.Option.{Option, none, some}
 use native.Mathlib.Nat.{mul-assoc, pow-succ', mul-le-mul-right, le-add-right, le-trans, zero-lt-suc, pow-le-pow-right}
 use native.Mathlib.Numerals.{add-one}
 use native.Mathlib.Omega.{arith}
-use borrow.Author.Tests.{lt-ltb, le-ltb, leb-true, ltb-true, ltb-false, eqb-true, eqb-false}
+use borrow.Author.Tests.{lt-ltb, le-ltb, le-leb, leb-true, ltb-true, ltb-false, eqb-true, eqb-false}
 use lib.Dec.{eqb, leb, ltb, leb·suc-suc}
 use lib.ListN.{length, getD, take, drop, replicate, length-append, length-drop}
 use lib.Seq.{take-append-seam, drop-append-seam, drop-drop}
 use Rattle.words.specs.BoolLaws.{by-test, and-left, and-right, impossible}
 use Rattle.bytes.specs.Bytes.{indexOf, indexAfter}
-use Rattle.text.specs.Text.{digitValue, digitsFrom, decimalOf, bounded, numberIn, byteThen, hexOf, decoded, decodedOf, comma, longer, fieldsOf, behindCommas, joined, sumLengths, fieldEnd, endsFrom, splitOf}
+use Rattle.text.specs.Text.{digitValue, digitsFrom, decimalOf, bounded, numberIn, byteThen, hexOf, decoded, decodedOf, HexLeft, hexLeft, putFront, hexInto, comma, longer, fieldsOf, behindCommas, joined, sumLengths, fieldEnd, endsFrom, splitOf}
 use Rattle.text.specs.Steps.{allHex, pairsOf}
 use Rattle.text.specs.declared.numbers.Number.{Number}
+use Rattle.text.specs.declared.hexadecimal.HexRead.{HexRead}
 use Rattle.text.specs.declared.fields.Split.{Split}
 
 none-some : {A B : Type 0} {a : A} → _≡_ {A = Option A} none (some a) → B
@@ -162,6 +163,37 @@ decoded-front (some b) e =
 pub hex-decoded : (s : List ℕ) → decodedOf s .ok ≡ true
     → (hexOf s ≡ some (take (decodedOf s .len) (decodedOf s .bytes))) × (decodedOf s .len ≤ length (decodedOf s .bytes))
 hex-decoded s e = decoded-front (hexOf s) e
+
+answered : {a b : HexLeft} → a ≡ b → a .read ≡ b .read
+answered e = ap (λ (l : HexLeft). l .read) e
+
+put-front : (o : Option (List ℕ)) (out after : List ℕ) (n : ℕ) → hexLeft (HexRead.Bytes n) after ≡ putFront o out
+    → (o ≡ some (take n after)) × (n ≤ length after)
+unfolding putFront
+put-front none out after n e = let h = answered e in impossible (cc)
+put-front (some b) out after n e =
+    by-test (leb (length b) (length out))
+    (λ t. let h : hexLeft (HexRead.Bytes n) after ≡ hexLeft (HexRead.Bytes (length b)) (b ++ drop (length b) out) = rw t at e in
+    let read = answered h in
+    let count : n ≡ length b = cc in
+    rw (count, ap (λ (l : HexLeft). l .out) h, take-append-seam b (drop (length b) out), length-append)
+    (refl, le-add-right (length b) (length (drop (length b) out))))
+    (λ f. let h : HexRead.Bytes n ≡ HexRead.Bad = answered (rw f at e) in impossible (cc))
+
+put-bad : (o : Option (List ℕ)) (out after : List ℕ) → hexLeft HexRead.Bad after ≡ putFront o out → ((b : List ℕ) → o ≡ some b → length b ≤ length out) → o ≡ none
+unfolding putFront
+put-bad none out after e fits = refl
+put-bad (some b) out after e fits =
+    let h : HexRead.Bad ≡ HexRead.Bytes (length b) = answered (rw (le-leb (length b) (length out) (fits b refl)) at e) in impossible (cc)
+
+module _ (s out : List ℕ) {r : HexRead} {after : List ℕ} (read : hexLeft r after ≡ hexInto s out) where
+  -- what `hex_into` put stands at the front of the output
+  pub into-bytes : {n : ℕ} → r ≡ HexRead.Bytes n → (hexOf s ≡ some (take n after)) × (n ≤ length after)
+  into-bytes {n} e = put-front (hexOf s) out after n (rw (← e) read)
+
+  -- what it refuses is wrong, where the output has room
+  pub into-bad : length s ≤ 2 * length out + 1 → r ≡ HexRead.Bad → hexOf s ≡ none
+  into-bad l e = put-bad (hexOf s) out after (rw (← e) read) (λ b h. omega (arith, hex-length s h))
 
 -- ---- fields
 

@@ -4,9 +4,9 @@ use bytes::copy;
 ghost use mathlib.Core.Path.{_≡_};
 ghost use mathlib.Core.List.{_++_, map};
 ghost use mathlib.Core.Option.{none};
-ghost use Prim.Native.Nat.{_-_, _≤_};
-ghost use lib.ListN.{length, replicate};
-ghost use Rattle.text.specs.Text.{digitValue, decoded, decodedOf};
+ghost use Prim.Native.Nat.{_-_, _/_, _≤_};
+ghost use lib.ListN.{length, drop, replicate};
+ghost use Rattle.text.specs.Text.{digitValue, decoded, decodedOf, hexLeft, hexInto};
 ghost use Rattle.text.specs.Steps.{allHex, pairsOf};
 
 // Whether the digits were right and not too many, how many bytes they are, and the bytes with zeros behind them. Of other digits all is zero.
@@ -95,4 +95,50 @@ pub fn hex(s: &[u8]) -> Decoded
         len: s.len() / 2,
         bytes: pairs_of(values),
     }
+}
+
+// ---- any count of bytes
+
+// How many bytes were put into the output, or digits that are wrong or too many.
+pub enum HexRead {
+    Bytes(usize),
+    Bad,
+}
+
+// Whether every byte of s is a hexadecimal digit.
+fn all_digits(s: &[u8]) -> bool
+    ensures { λ r. ⌜ r ≡ allHex (map digitValue (now (s .entry))) ⌝ }
+{
+    let mut right = true;
+    let mut i = 0;
+    while i < s.len() {
+        right = right & (digit(s[i]) < 16);
+        i += 1;
+    }
+    right
+}
+
+// Puts the bytes of the pairs of digits at the front of out.
+fn put_pairs(s: &[u8], out: &mut [u8])
+    requires { ⌜ length (now s) / 2 ≤ length (now out) ⌝ }
+    ensures { λ _. ⌜ now (out .exit) ≡ pairsOf (map digitValue (now (s .entry))) ++ drop (length (now (s .entry)) / 2) (now (out .entry)) ⌝ }
+{
+    let n = s.len() / 2;
+    let mut i = 0;
+    while i < n {
+        out[i] = digit(s[2 * i]) % 16 * 16 + digit(s[2 * i + 1]) % 16;
+        i += 1;
+    }
+}
+
+// Puts the bytes of s at the front of out. Where the digits are wrong, or their bytes more than out has, out stays as it is.
+pub fn hex_into(s: &[u8], out: &mut [u8]) -> HexRead
+    ensures { λ r. ⌜ hexLeft r (now (out .exit)) ≡ hexInto (now (s .entry)) (now (out .entry)) ⌝ }
+{
+    let n = s.len() / 2;
+    if !((s.len() % 2 == 0) & (n <= out.len()) & all_digits(s)) {
+        return HexRead::Bad;
+    }
+    put_pairs(s, out);
+    HexRead::Bytes(n)
 }
