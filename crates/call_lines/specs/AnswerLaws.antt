@@ -2,7 +2,7 @@
 use Prim.Native.Nat.{ℕ, zero, suc, _+_, _-_, _*_, _/_, _%_, _^_, _≤_, _<_}
 use mathlib.Core.Path.{_≡_, refl, sym, _∙_}
 use mathlib.Core.List.{List, [], _∷_, _++_}
-use mathlib.Core.Option.{some}
+use mathlib.Core.Option.{none, some}
 use native.Mathlib.Nat.{pow-suc, div-lt-iff-lt-mul, lt-of-lt-of-le, zero-lt-suc}
 use native.Mathlib.Omega.{arith}
 use borrow.Author.Tests.{eqb-true, eqb-false, lt-ltb, le-leb, ltb-true, ltb-false, leb-false}
@@ -30,7 +30,7 @@ digit-read : (v d : ℕ) → d < 10 → digitsFrom v ((d + 0x30) ∷ []) ≡ som
 unfolding digitsFrom
 digit-read v d l = rw (digit-value d l, lt-ltb d 10 l)
 
-digits-behind : (v : ℕ) (s t : List ℕ) → digitsFrom v (s ++ t) ≡ given (digitsFrom v s) (λ w. digitsFrom w t)
+digits-behind : (v : ℕ) (s t : List ℕ) → digitsFrom v (s ++ t) ≡ given (digitsFrom v s) none (λ w. digitsFrom w t)
 unfolding digitsFrom
 digits-behind v [] t = refl
 digits-behind v (b ∷ s) t =

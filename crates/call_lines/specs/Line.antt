@@ -13,7 +13,7 @@ use Rattle.token.specs.declared.answers.Answer.{Answer}
 use Rattle.token.specs.Codes.{Signed, numberOf, valuesOf}
 use Rattle.desk.specs.declared.Particulars.{Particulars}
 use Rattle.desk.specs.Requests.{DeskCall, loginCall, challengeCall, activateCall, lockCall, unlockCall, suspendCall, resumeCall, syncCall, voidCall, queryCall}
-use Rattle.desk.specs.Desk.{Result, refused, deskAfter}
+use Rattle.desk.specs.Reads.{Reads, readAfter}
 use Rattle.call_lines.specs.declared.Printed.{Printed}
 use Rattle.call_lines.specs.declared.names.Name.{Name}
 
@@ -59,10 +59,10 @@ countOf Name.Unknown = 0
 abbrev pub fieldOf : List (List ℕ) → ℕ → List ℕ
 fieldOf fields i = getD fields i []
 
--- what follows of a value that was read, or nothing
-abbrev pub given : {A B : Type 0} → Option A → (A → Option B) → Option B
-given none f = none
-given (some x) f = f x
+-- what follows of a value that was read, and what stands for it where it was not
+abbrev pub given : {A B : Type 0} → Option A → B → (A → B) → B
+given none other f = other
+given (some x) other f = f x
 
 abbrev pub below : ℕ → Option ℕ → Option ℕ
 below limit none = none
@@ -78,15 +78,19 @@ taken ok x = cond ok (some x) none
 
 -- ---- calls
 
+-- a line not so made is answered as a bad argument is
+abbrev pub notMade : Reads
+notMade = Reads.refuses Refusal.BadArgument
+
 -- load,SERIAL,KIND,ALGORITHM,DIGITS,PERIOD,LIMIT,KEY,WAIT,EXPIRY
 unfoldable pub particularsOf : List (List ℕ) → ℕ → ℕ → Option Particulars
 particularsOf fields serial expiry =
-    given (numberBelow (2 ^ 8) (fieldOf fields 2))
-    (λ kind. given (numberBelow (2 ^ 8) (fieldOf fields 3))
-    (λ algorithm. given (numberBelow (2 ^ 8) (fieldOf fields 4))
-    (λ digits. given (numberBelow (2 ^ 8) (fieldOf fields 5))
-    (λ period. given (numberBelow (2 ^ 8) (fieldOf fields 6))
-    (λ limit. given (numberBelow (2 ^ 32) (fieldOf fields 8))
+    given (numberBelow (2 ^ 8) (fieldOf fields 2)) none
+    (λ kind. given (numberBelow (2 ^ 8) (fieldOf fields 3)) none
+    (λ algorithm. given (numberBelow (2 ^ 8) (fieldOf fields 4)) none
+    (λ digits. given (numberBelow (2 ^ 8) (fieldOf fields 5)) none
+    (λ period. given (numberBelow (2 ^ 8) (fieldOf fields 6)) none
+    (λ limit. given (numberBelow (2 ^ 32) (fieldOf fields 8)) none
     (λ wait. some
     (record {
       serial = serial;
@@ -97,48 +101,49 @@ particularsOf fields serial expiry =
       expiry = record { 0 = expiry };
     })))))))
 
-unfoldable pub loadLine : List (List ℕ) → ℕ → ℕ → Option DeskCall
+unfoldable pub loadLine : List (List ℕ) → ℕ → ℕ → Reads
 loadLine fields serial expiry =
-    given (particularsOf fields serial expiry)
-    (λ particulars. given (hexOf (fieldOf fields 7)) (λ key. some (DeskCall.load particulars key)))
+    given (particularsOf fields serial expiry) notMade
+    (λ particulars. given (hexOf (fieldOf fields 7)) notMade (λ key. Reads.serves (DeskCall.load particulars key)))
 
 -- challenge,SERIAL,Q,PASSWORD,NOW
-unfoldable pub challengeLine : List (List ℕ) → ℕ → ℕ → Option DeskCall
+unfoldable pub challengeLine : List (List ℕ) → ℕ → ℕ → Reads
 challengeLine fields serial clock =
-    given (hexOf (fieldOf fields 2)) (λ challenge. some (challengeCall challenge (fieldOf fields 3) serial clock))
+    given (hexOf (fieldOf fields 2)) notMade (λ challenge. Reads.serves (challengeCall challenge (fieldOf fields 3) serial clock))
 
 -- sync,SERIAL,CHOICE,PASSWORD,NEXT,NOW
-unfoldable pub syncLine : List (List ℕ) → ℕ → ℕ → Option DeskCall
+unfoldable pub syncLine : List (List ℕ) → ℕ → ℕ → Reads
 syncLine fields serial clock =
-    given (numberBelow (2 ^ 8) (fieldOf fields 2)) (λ choice. some (syncCall choice (fieldOf fields 3) (fieldOf fields 4) serial clock))
+    given (numberBelow (2 ^ 8) (fieldOf fields 2)) notMade
+    (λ choice. Reads.serves (syncCall choice (fieldOf fields 3) (fieldOf fields 4) serial clock))
 
 -- the call of a name, its SERIAL and its time, which is the EXPIRY of a load and the NOW of the others
-unfoldable pub callBy : Name → List (List ℕ) → ℕ → ℕ → Option DeskCall
+unfoldable pub callBy : Name → List (List ℕ) → ℕ → ℕ → Reads
 callBy Name.Load fields serial expiry = loadLine fields serial expiry
-callBy Name.Login fields serial clock = some (loginCall (fieldOf fields 2) serial clock)
+callBy Name.Login fields serial clock = Reads.serves (loginCall (fieldOf fields 2) serial clock)
 callBy Name.Challenge fields serial clock = challengeLine fields serial clock
-callBy Name.Activate fields serial clock = some (activateCall (fieldOf fields 2) (fieldOf fields 3) serial clock)
-callBy Name.Lock fields serial clock = some (lockCall serial clock)
-callBy Name.Suspend fields serial clock = some (suspendCall serial clock)
-callBy Name.Void fields serial clock = some (voidCall serial clock)
-callBy Name.Query fields serial clock = some (queryCall serial clock)
-callBy Name.Unlock fields serial clock = some (unlockCall (fieldOf fields 2) serial clock)
-callBy Name.Resume fields serial clock = some (resumeCall (fieldOf fields 2) serial clock)
+callBy Name.Activate fields serial clock = Reads.serves (activateCall (fieldOf fields 2) (fieldOf fields 3) serial clock)
+callBy Name.Lock fields serial clock = Reads.serves (lockCall serial clock)
+callBy Name.Suspend fields serial clock = Reads.serves (suspendCall serial clock)
+callBy Name.Void fields serial clock = Reads.serves (voidCall serial clock)
+callBy Name.Query fields serial clock = Reads.serves (queryCall serial clock)
+callBy Name.Unlock fields serial clock = Reads.serves (unlockCall (fieldOf fields 2) serial clock)
+callBy Name.Resume fields serial clock = Reads.serves (resumeCall (fieldOf fields 2) serial clock)
 callBy Name.Sync fields serial clock = syncLine fields serial clock
-callBy Name.Unknown fields serial clock = none
+callBy Name.Unknown fields serial clock = notMade
 
 -- every line has SERIAL behind its name, and a time at its end
-unfoldable pub fieldsCall : Name → List (List ℕ) → Option DeskCall
-fieldsCall name fields =
+unfoldable pub fieldsRead : Name → List (List ℕ) → Reads
+fieldsRead name fields =
     cond (eqb (length fields) (countOf name))
-    (given (numberBelow (2 ^ 64) (fieldOf fields 1))
-    (λ serial. given (numberBelow (2 ^ 64) (fieldOf fields (countOf name - 1)))
+    (given (numberBelow (2 ^ 64) (fieldOf fields 1)) notMade
+    (λ serial. given (numberBelow (2 ^ 64) (fieldOf fields (countOf name - 1))) notMade
     (λ clock. callBy name fields serial clock)))
-    none
+    notMade
 
--- the call of a line; none where the line is not so made, or has more than 4,096 bytes
-unfoldable pub callOf : List ℕ → Option DeskCall
-callOf line = cond (leb (length line) 4096) (fieldsCall (nameOf (fieldOf (fieldsOf line) 0)) (fieldsOf line)) none
+-- what a line is read into; one of more than 4,096 bytes is not so made
+unfoldable pub readsOf : List ℕ → Reads
+readsOf line = cond (leb (length line) 4096) (fieldsRead (nameOf (fieldOf (fieldsOf line) 0)) (fieldsOf line)) notMade
 
 -- ---- answers
 
@@ -174,18 +179,13 @@ answerText answer = codeText (numberOf answer) ++ valuesText (answerValues answe
 
 -- ---- a line
 
--- the call made on a table; what is no call is answered as a bad argument is, and changes nothing
-unfoldable pub made : PasswordRule → Option DeskCall → List ℕ → Result
-made passwords none s = refused Refusal.BadArgument s
-made passwords (some call) s = deskAfter passwords call s
-
 -- the text printed for a line, without the line feed, and the table after it
 pub record Printing : Type 0 where
   pub text : List ℕ
   pub table : List ℕ
 
 unfoldable pub lineAfter : PasswordRule → List ℕ → List ℕ → Printing
-lineAfter passwords line s = record { text = answerText (made passwords (callOf line) s .answer); table = made passwords (callOf line) s .table }
+lineAfter passwords line s = record { text = answerText (readAfter passwords (readsOf line) s .answer); table = readAfter passwords (readsOf line) s .table }
 
 -- the text as the function gives it: how many bytes, and the bytes with zeros behind them
 unfoldable pub printedOf : List ℕ → Printed

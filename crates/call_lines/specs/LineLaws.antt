@@ -21,10 +21,11 @@ use Rattle.token.specs.declared.answers.Answer.{Answer}
 use Rattle.desk.specs.declared.Particulars.{Particulars}
 use Rattle.desk.specs.Requests.{DeskCall, challengeCall, syncCall, tableOk, challengeGiven, requestOk}
 use Rattle.desk.specs.Desk.{Result, result, refused, deskAfter}
+use Rattle.desk.specs.Reads.{Reads, readAfter}
 use Rattle.desk.specs.LoadLaws.{long-key-bad}
 use Rattle.call_lines.specs.declared.Printed.{Printed}
 use Rattle.call_lines.specs.declared.names.Name.{Name}
-use Rattle.call_lines.specs.Line.{countOf, fieldOf, given, below, numberBelow, taken, particularsOf, loadLine, challengeLine, syncLine, callBy, fieldsCall, nameOf, callOf, codeText, valuesText, answerText, made, lineAfter, printedOf, left, lineLeft}
+use Rattle.call_lines.specs.Line.{countOf, fieldOf, given, below, numberBelow, taken, notMade, particularsOf, loadLine, challengeLine, syncLine, callBy, fieldsRead, nameOf, readsOf, codeText, valuesText, answerText, lineAfter, printedOf, left, lineLeft}
 
 -- ---- numbers
 
@@ -52,23 +53,23 @@ module _ (most : ℕ) {s field : List ℕ} (same : s ≡ field) where
     unfolding taken
     number-above l = rw (← same, number-value s read .0, le-ltb x (most + 1) (omega arith))
 
--- ---- made calls
+-- ---- what is read
 
 module _ (passwords : PasswordRule) (s : List ℕ) where
-  -- what is no call, or one with a bad argument
-  abbrev pub TurnedDown : Option DeskCall → Type 0
-  TurnedDown o = refused Refusal.BadArgument s ≡ made passwords o s
+  -- what is not so made, or a call with a bad argument
+  abbrev pub TurnedDown : Reads → Type 0
+  TurnedDown r = refused Refusal.BadArgument s ≡ readAfter passwords r s
 
-  pub made-none : {o : Option DeskCall} → o ≡ none → TurnedDown o
-  unfolding made
-  made-none e = rw e
+  pub read-none : {r : Reads} → r ≡ notMade → TurnedDown r
+  unfolding readAfter
+  read-none e = rw e
 
-  pub made-as : {o p : Option DeskCall} {r : Result} → r ≡ made passwords p s → o ≡ p → r ≡ made passwords o s
-  made-as m e = rw e m
+  pub read-as : {r t : Reads} {after : Result} → after ≡ readAfter passwords t s → r ≡ t → after ≡ readAfter passwords r s
+  read-as m e = rw e m
 
-  pub made-call : {o : Option DeskCall} {call : DeskCall} {r : Result} → r ≡ deskAfter passwords call s → o ≡ some call → r ≡ made passwords o s
-  unfolding made
-  made-call m e = rw e m
+  pub read-call : {r : Reads} {call : DeskCall} {after : Result} → after ≡ deskAfter passwords call s → r ≡ Reads.serves call → after ≡ readAfter passwords r s
+  unfolding readAfter
+  read-call m e = rw e m
 
 -- ---- a key or a challenge of more than 32 bytes is a bad argument
 
@@ -108,41 +109,41 @@ decoded-within s {r} p t = bytes-decoded {s = s} refl p (not-false (r .ok) t) .1
 module _ (fields : List (List ℕ)) (serial clock : ℕ) where
   module _ {digits : List ℕ} {r : Decoded} (same : digits ≡ fieldOf fields 2) (key : r ≡ decodedOf digits) where
     pub challenge-bad : (passwords : PasswordRule) (s : List ℕ) → not (r .ok) ≡ true → TurnedDown passwords s (challengeLine fields serial clock)
-    unfolding challengeLine made
+    unfolding challengeLine readAfter
     challenge-bad passwords s e =
         rw (← same)
         (hex-bad
-        (λ o. TurnedDown passwords s (given o (λ challenge. some (challengeCall challenge (fieldOf fields 3) serial clock))))
+        (λ o. TurnedDown passwords s (given o notMade (λ challenge. Reads.serves (challengeCall challenge (fieldOf fields 3) serial clock))))
         refl
         (λ q l. rw (long-challenge passwords s q (fieldOf fields 3) serial clock l))
         (hexOf digits)
         (rw (← key) (not-true (r .ok) e)))
 
     pub challenge-read : {password : List ℕ} → not (r .ok) ≡ false → password ≡ fieldOf fields 3
-        → challengeLine fields serial clock ≡ some (challengeCall (take (r .len - 0) (drop 0 (r .bytes))) password serial clock)
+        → challengeLine fields serial clock ≡ Reads.serves (challengeCall (take (r .len - 0) (drop 0 (r .bytes))) password serial clock)
     unfolding challengeLine
     challenge-read t p = rw (bytes-decoded same key (not-false (r .ok) t) .0, p)
 
   module _ (choice : ℕ) (ok : Bool) (read : numberBelow (2 ^ 8) (fieldOf fields 2) ≡ taken ok choice) where
-    pub sync-bad : not ok ≡ true → syncLine fields serial clock ≡ none
+    pub sync-bad : not ok ≡ true → syncLine fields serial clock ≡ notMade
     unfolding syncLine taken
     sync-bad t = rw (read, not-true ok t)
 
     pub sync-read : {password following : List ℕ} → not ok ≡ false → password ≡ fieldOf fields 3 → following ≡ fieldOf fields 4
-        → syncLine fields serial clock ≡ some (syncCall choice password following serial clock)
+        → syncLine fields serial clock ≡ Reads.serves (syncCall choice password following serial clock)
     unfolding syncLine taken
     sync-read t p q = rw (read, not-false ok t, p, q)
 
   module _ (p : Particulars) (ok : Bool) {digits : List ℕ} {r : Decoded} (read : particularsOf fields serial clock ≡ taken ok p) (same : digits ≡ fieldOf fields 7)
       (key : r ≡ decodedOf digits) where
     pub load-bad : (passwords : PasswordRule) (s : List ℕ) → not (ok && r .ok) ≡ true → TurnedDown passwords s (loadLine fields serial clock)
-    unfolding loadLine made taken
+    unfolding loadLine readAfter taken
     load-bad passwords s t = rw (read, ← same) (bad ok (not-true (ok && r .ok) t))
       where
-        bad : (b : Bool) → b && r .ok ≡ false → TurnedDown passwords s (given (taken b p) (λ q. given (hexOf digits) (λ k. some (DeskCall.load q k))))
+        bad : (b : Bool) → b && r .ok ≡ false → TurnedDown passwords s (given (taken b p) notMade (λ q. given (hexOf digits) notMade (λ k. Reads.serves (DeskCall.load q k))))
         bad false e = refl
         bad true e =
-            hex-bad (λ o. TurnedDown passwords s (given o (λ k. some (DeskCall.load p k)))) refl
+            hex-bad (λ o. TurnedDown passwords s (given o notMade (λ k. Reads.serves (DeskCall.load p k)))) refl
             (λ k l. rw (long-key passwords s p k l)) (hexOf digits) (rw (← key) e)
 
     module _ (t : not (ok && r .ok) ≡ false) where
@@ -152,7 +153,7 @@ module _ (fields : List (List ℕ)) (serial clock : ℕ) where
       pub key-within : r .len ≤ length (r .bytes)
       key-within = decoded-key .1
 
-      pub load-read : loadLine fields serial clock ≡ some (DeskCall.load p (take (r .len - 0) (drop 0 (r .bytes))))
+      pub load-read : loadLine fields serial clock ≡ Reads.serves (DeskCall.load p (take (r .len - 0) (drop 0 (r .bytes))))
       unfolding loadLine taken
       load-read = rw (read, and-left ok _ (not-false (ok && r .ok) t), decoded-key .0)
 
@@ -187,24 +188,24 @@ module _ (fields : List (List ℕ)) (serial expiry kind algorithm digits period 
 -- ---- the line
 
 -- a line not so made prints 9005, and changes nothing
-pub not-made : (passwords : PasswordRule) (line s : List ℕ) → callOf line ≡ none
+pub not-made : (passwords : PasswordRule) (line s : List ℕ) → readsOf line ≡ notMade
     → lineAfter passwords line s ≡ record { text = 0x39 ∷ 0x30 ∷ 0x30 ∷ 0x35 ∷ []; table = s }
-unfolding lineAfter made answerText codeText valuesText
+unfolding lineAfter readAfter answerText codeText valuesText
 not-made passwords line s e = rw e
 
 module _ (line : List ℕ) where
-  pub line-long : 4096 < length line → callOf line ≡ none
-  unfolding callOf
+  pub line-long : 4096 < length line → readsOf line ≡ notMade
+  unfolding readsOf
   line-long l = rw (lt-leb (length line) 4096 l)
 
   module _ (short : length line ≤ 4096) {field : List ℕ} {name : Name} {count : ℕ} {right : Bool} (first : field ≡ fieldOf (fieldsOf line) 0) (named : name ≡ nameOf field)
       (counts : count ≡ countOf name) (counted : right ≡ eqb (length (fieldsOf line)) count) where
-    by-name : callOf line ≡ fieldsCall name (fieldsOf line)
-    unfolding callOf
+    by-name : readsOf line ≡ fieldsRead name (fieldsOf line)
+    unfolding readsOf
     by-name = rw (le-leb (length line) 4096 short, named, first)
 
-    pub line-miscounted : not right ≡ true → callOf line ≡ none
-    unfolding fieldsCall
+    pub line-miscounted : not right ≡ true → readsOf line ≡ notMade
+    unfolding fieldsRead
     line-miscounted t = rw (by-name, ← counts, ← counted, not-true right t)
 
     pub name-first : not right ≡ false → 0 < count
@@ -212,25 +213,25 @@ module _ (line : List ℕ) where
 
     module _ (right-count : not right ≡ false) (serial clock : ℕ) (a b : Bool) (one : numberBelow (2 ^ 64) (fieldOf (fieldsOf line) 1) ≡ taken a serial)
         (last : numberBelow (2 ^ 64) (fieldOf (fieldsOf line) (count - 1)) ≡ taken b clock) where
-      pub line-unread : not (a && b) ≡ true → callOf line ≡ none
-      unfolding fieldsCall taken
+      pub line-unread : not (a && b) ≡ true → readsOf line ≡ notMade
+      unfolding fieldsRead taken
       line-unread t = rw (by-name, ← counts, ← counted, not-false right right-count, one, last) (both a b (not-true (a && b) t))
         where
-          both : (a b : Bool) → a && b ≡ false → given (taken a serial) (λ x. given (taken b clock) (λ y. callBy name (fieldsOf line) x y)) ≡ none
+          both : (a b : Bool) → a && b ≡ false → given (taken a serial) notMade (λ x. given (taken b clock) notMade (λ y. callBy name (fieldsOf line) x y)) ≡ notMade
           both false b e = refl
           both true b e = rw e
 
-      pub line-read : not (a && b) ≡ false → callOf line ≡ callBy name (fieldsOf line) serial clock
-      unfolding fieldsCall taken
+      pub line-read : not (a && b) ≡ false → readsOf line ≡ callBy name (fieldsOf line) serial clock
+      unfolding fieldsRead taken
       line-read t = rw (by-name, ← counts, ← counted, not-false right right-count, one, last) (both a b (not-false (a && b) t))
         where
-          both : (a b : Bool) → a && b ≡ true → given (taken a serial) (λ x. given (taken b clock) (λ y. callBy name (fieldsOf line) x y)) ≡ callBy name (fieldsOf line) serial clock
+          both : (a b : Bool) → a && b ≡ true → given (taken a serial) notMade (λ x. given (taken b clock) notMade (λ y. callBy name (fieldsOf line) x y)) ≡ callBy name (fieldsOf line) serial clock
           both false b e = impossible (cc)
           both true b e = rw e
 
 -- the answer's text is printed, and the table is as the call left it
 pub line-left : (passwords : PasswordRule) (line s : List ℕ) {answer : Answer} {after : List ℕ} {text : Printed}
-    → result answer after ≡ made passwords (callOf line) s → text ≡ printedOf (answerText answer) → left text after ≡ lineLeft passwords line s
+    → result answer after ≡ readAfter passwords (readsOf line) s → text ≡ printedOf (answerText answer) → left text after ≡ lineLeft passwords line s
 unfolding lineAfter lineLeft
 line-left passwords line s {answer} {after} {text} m p = rw (p, ← m)
 

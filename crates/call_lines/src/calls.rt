@@ -29,7 +29,8 @@ ghost use lib.ListN.{length};
 ghost use Rattle.text.specs.Text.{fieldsOf};
 ghost use Rattle.window.specs.PasswordAt.{passwordAt};
 ghost use Rattle.desk.specs.Desk.{result};
-ghost use Rattle.call_lines.specs.Line.{taken, particularsOf, loadLine, challengeLine, syncLine, callBy, callOf, made};
+ghost use Rattle.desk.specs.Reads.{readAfter};
+ghost use Rattle.call_lines.specs.Line.{taken, particularsOf, loadLine, challengeLine, syncLine, callBy, readsOf};
 
 const LONGEST: usize = 4096;
 
@@ -74,7 +75,7 @@ fn particulars_of(line: &[u8], serial: u64, expiry: Seconds) -> LoadRead
 // A line of a load, of which SERIAL and EXPIRY were read.
 fn load_line(table: &mut [u8], line: &[u8], serial: u64, expiry: Seconds) -> Answer
     requires { ⌜ length (now line) ≤ 4096 ⌝ }
-    ensures { λ r. ⌜ result r (now (table .exit)) ≡ made passwordAt (loadLine (fieldsOf (now (line .entry))) serial (expiry .0)) (now (table .entry)) ⌝ }
+    ensures { λ r. ⌜ result r (now (table .exit)) ≡ readAfter passwordAt (loadLine (fieldsOf (now (line .entry))) serial (expiry .0)) (now (table .entry)) ⌝ }
 {
     let read = particulars_of(line, serial, expiry);
     let key = hex(field(line, 7));
@@ -90,7 +91,7 @@ fn load_line(table: &mut [u8], line: &[u8], serial: u64, expiry: Seconds) -> Ans
 // A line of a challenge login.
 fn challenge_line(table: &mut [u8], line: &[u8], serial: u64, clock: Seconds) -> Answer
     requires { ⌜ length (now line) ≤ 4096 ⌝ }
-    ensures { λ r. ⌜ result r (now (table .exit)) ≡ made passwordAt (challengeLine (fieldsOf (now (line .entry))) serial (clock .0)) (now (table .entry)) ⌝ }
+    ensures { λ r. ⌜ result r (now (table .exit)) ≡ readAfter passwordAt (challengeLine (fieldsOf (now (line .entry))) serial (clock .0)) (now (table .entry)) ⌝ }
 {
     let challenge = hex(field(line, 2));
     if !challenge.ok {
@@ -104,7 +105,7 @@ fn challenge_line(table: &mut [u8], line: &[u8], serial: u64, clock: Seconds) ->
 // A line of a sync.
 fn sync_line(table: &mut [u8], line: &[u8], serial: u64, clock: Seconds) -> Answer
     requires { ⌜ length (now line) ≤ 4096 ⌝ }
-    ensures { λ r. ⌜ result r (now (table .exit)) ≡ made passwordAt (syncLine (fieldsOf (now (line .entry))) serial (clock .0)) (now (table .entry)) ⌝ }
+    ensures { λ r. ⌜ result r (now (table .exit)) ≡ readAfter passwordAt (syncLine (fieldsOf (now (line .entry))) serial (clock .0)) (now (table .entry)) ⌝ }
 {
     let choice = byte_at(line, 2);
     if !choice.ok {
@@ -123,7 +124,7 @@ fn sync_line(table: &mut [u8], line: &[u8], serial: u64, clock: Seconds) -> Answ
 // A line of the name's count of fields, of which SERIAL and the time at the end were read.
 fn named_line(table: &mut [u8], line: &[u8], name: Name, serial: u64, clock: Seconds) -> Answer
     requires { ⌜ length (now line) ≤ 4096 ⌝ }
-    ensures { λ r. ⌜ result r (now (table .exit)) ≡ made passwordAt (callBy name (fieldsOf (now (line .entry))) serial (clock .0)) (now (table .entry)) ⌝ }
+    ensures { λ r. ⌜ result r (now (table .exit)) ≡ readAfter passwordAt (callBy name (fieldsOf (now (line .entry))) serial (clock .0)) (now (table .entry)) ⌝ }
 {
     match name {
         Name::Load => load_line(table, line, serial, clock),
@@ -143,7 +144,7 @@ fn named_line(table: &mut [u8], line: &[u8], name: Name, serial: u64, clock: Sec
 
 // Makes the call of a line.
 pub(crate) fn line_call(table: &mut [u8], line: &[u8]) -> Answer
-    ensures { λ r. ⌜ result r (now (table .exit)) ≡ made passwordAt (callOf (now (line .entry))) (now (table .entry)) ⌝ }
+    ensures { λ r. ⌜ result r (now (table .exit)) ≡ readAfter passwordAt (readsOf (now (line .entry))) (now (table .entry)) ⌝ }
 {
     if LONGEST < line.len() {
         return Answer::Refused(Refusal::BadArgument);

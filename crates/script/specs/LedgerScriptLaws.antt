@@ -12,10 +12,10 @@ use Rattle.words.specs.Lists.{sameBytes}
 use Rattle.words.specs.BoolLaws.{by-test, impossible}
 use Rattle.text.specs.Text.{comma, decimalOf}
 use Rattle.window.specs.PasswordAt.{PasswordRule}
-use Rattle.desk.specs.Requests.{DeskCall}
+use Rattle.desk.specs.Reads.{Reads, readAfter}
 use Rattle.ledger.specs.Ledger.{Entry, tableOf}
 use Rattle.ledger.specs.Demand3Laws.{Faithful, start-faithful, start-table, call-step, faithful-step}
-use Rattle.call_lines.specs.Line.{callOf, made, lineAfter}
+use Rattle.call_lines.specs.Line.{readsOf, lineAfter}
 use Rattle.script.specs.Script.{fewRows, rowsOf, isTable, serves, laterLine, served, servedAll, start, outputOf}
 use Rattle.script.specs.LedgerScript.{ledgerAnswer, ledgerHistory, ledgerText, ScriptIsLedger}
 
@@ -23,16 +23,16 @@ use Rattle.script.specs.LedgerScript.{ledgerAnswer, ledgerHistory, ledge
 
 module _ (passwords : PasswordRule) (rows : ℕ) (some-rows : 1 ≤ rows) (few : rows ≤ 256) where
   -- the desk on the machine's table, for a line that is no `table`
-  line-step : (history : List Entry) (o : Option DeskCall) → Faithful passwords rows history
-      → made passwords o (tableOf passwords rows history)
-      ≡ record { answer = ledgerAnswer passwords rows history o; table = tableOf passwords rows (ledgerHistory passwords rows history o) }
-  unfolding made
-  line-step history none faithful = refl
-  line-step history (some call) faithful = call-step passwords rows history call faithful some-rows few
+  line-step : (history : List Entry) (r : Reads) → Faithful passwords rows history
+      → readAfter passwords r (tableOf passwords rows history)
+      ≡ record { answer = ledgerAnswer passwords rows history r; table = tableOf passwords rows (ledgerHistory passwords rows history r) }
+  unfolding readAfter
+  line-step history (Reads.serves call) faithful = call-step passwords rows history call faithful some-rows few
+  line-step history (Reads.refuses refusal) faithful = refl
 
-  faithful-line : (history : List Entry) (o : Option DeskCall) → Faithful passwords rows history → Faithful passwords rows (ledgerHistory passwords rows history o)
-  faithful-line history none faithful = faithful
-  faithful-line history (some call) faithful = faithful-step passwords rows history call faithful
+  faithful-line : (history : List Entry) (r : Reads) → Faithful passwords rows history → Faithful passwords rows (ledgerHistory passwords rows history r)
+  faithful-line history (Reads.serves call) faithful = faithful-step passwords rows history call faithful
+  faithful-line history (Reads.refuses refusal) faithful = faithful
 
   lines-from : (history : List Entry) (lines : List (List ℕ)) → Faithful passwords rows history
       → servedAll passwords lines (record { fresh = false; table = tableOf passwords rows history }) .text ≡ ledgerText passwords rows history lines
@@ -41,8 +41,8 @@ module _ (passwords : PasswordRule) (rows : ℕ) (some-rows : 1 ≤ rows) (few :
   lines-from history (line ∷ lines) faithful =
       by-test (isTable line)
       (λ t. rw (t, lines-from history lines faithful))
-      (λ f. let o = callOf line in
-      rw (f, line-step history o faithful, lines-from (ledgerHistory passwords rows history o) lines (faithful-line history o faithful)))
+      (λ f. let r = readsOf line in
+      rw (f, line-step history r faithful, lines-from (ledgerHistory passwords rows history r) lines (faithful-line history r faithful)))
 
 -- ---- the first line
 

@@ -8,7 +8,8 @@ use Rattle.words.specs.Lists.{sameBytes}
 use Rattle.text.specs.Text.{digitValue, digitsFrom, decimalOf, longer, fieldsOf}
 use Rattle.lines.specs.Lines.{linesOf}
 use Rattle.window.specs.PasswordAt.{PasswordRule}
-use Rattle.call_lines.specs.Line.{nameOf, fieldsCall, callOf, codeText, valuesText, answerText, made, lineAfter}
+use Rattle.desk.specs.Reads.{readAfter}
+use Rattle.call_lines.specs.Line.{nameOf, fieldsRead, readsOf, codeText, valuesText, answerText, lineAfter}
 use Rattle.script.specs.Script.{hexText, rowsText, rowsOf, laterLine, served, servedAll, outputOf}
 
 -- rows,N
@@ -33,10 +34,10 @@ row-printed = refl
 pub script-printed : (passwords : PasswordRule)
     → outputOf passwords (rowsLine (0x31 ∷ 0x0a ∷ []) ++ (tableLine ++ (0x0a ∷ rowsLine (0x31 ∷ 0x0a ∷ tableLine))))
     ≡ replicate 192 0x30 ++ (0x0a ∷ 0x39 ∷ 0x30 ∷ 0x30 ∷ 0x35 ∷ 0x0a ∷ (replicate 192 0x30 ++ (0x0a ∷ [])))
-unfolding outputOf linesOf longer servedAll served rowsOf sameBytes digitValue digitsFrom decimalOf laterLine hexText rowsText lineAfter made callOf nameOf fieldsCall fieldsOf answerText codeText valuesText
+unfolding outputOf linesOf longer servedAll served rowsOf sameBytes digitValue digitsFrom decimalOf laterLine hexText rowsText lineAfter readAfter readsOf nameOf fieldsRead fieldsOf answerText codeText valuesText
 script-printed passwords = refl
 
 -- table, then rows,1: without a first `rows` line there is no table
 pub tableless-printed : (passwords : PasswordRule) → outputOf passwords (tableLine ++ (0x0a ∷ rowsLine (0x31 ∷ []))) ≡ 0x39 ∷ 0x30 ∷ 0x30 ∷ 0x35 ∷ 0x0a ∷ []
-unfolding outputOf linesOf longer servedAll served rowsOf sameBytes laterLine rowsText lineAfter made callOf nameOf fieldsCall fieldsOf answerText codeText valuesText
+unfolding outputOf linesOf longer servedAll served rowsOf sameBytes laterLine rowsText lineAfter readAfter readsOf nameOf fieldsRead fieldsOf answerText codeText valuesText
 tableless-printed passwords = refl

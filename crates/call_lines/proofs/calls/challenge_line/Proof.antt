@@ -1,4 +1,4 @@
-use Rattle.call_lines.specs.LineLaws.{made-call, decoded-within, challenge-bad, challenge-read}
+use Rattle.call_lines.specs.LineLaws.{read-call, decoded-within, challenge-bad, challenge-read}
 use borrow.Author.Needs.{needs}
 use Rattle.call_lines.proofs.calls.challenge_line.Statement.{statement}
 use Rattle.call_lines.proofs.calls.challenge_line.Tie as tie
@@ -37,7 +37,7 @@ returns-2 c =
     let if1 = c .before .before .before .before .before .before .before .before .if1 in
     let challenge-login = c .before .before .challenge-login in
     let field2 = c .before .before .before .field2 in
-    made-call _ _ (challenge-login .ensures) (challenge-read _ _ _ (field .ensures) (hex .ensures) (if1 .left) (field2 .ensures))
+    read-call _ _ (challenge-login .ensures) (challenge-read _ _ _ (field .ensures) (hex .ensures) (if1 .left) (field2 .ensures))
 
 pub challenge-line-spec : {M : Type 1} → statement M
 challenge-line-spec =

@@ -1,11 +1,11 @@
 use native.Mathlib.Omega.{arith}
-use Rattle.call_lines.specs.LineLaws.{made-none, made-as, line-long, count-small, line-miscounted, name-first, line-unread, line-read}
+use Rattle.call_lines.specs.LineLaws.{read-none, read-as, line-long, count-small, line-miscounted, name-first, line-unread, line-read}
 use borrow.Author.Needs.{needs}
 use Rattle.call_lines.proofs.calls.line_call.Statement.{statement}
 use Rattle.call_lines.proofs.calls.line_call.Tie as tie
 
 returns : tie.Need-returns
-returns c = made-none _ _ (line-long _ (c .if1 .taken))
+returns c = read-none _ _ (line-long _ (c .if1 .taken))
 
 field-requires : tie.Need-field-requires
 field-requires c κs = search needs
@@ -26,7 +26,7 @@ returns-2 c =
     let name-of = c .before .before .before .name-of in
     let count-of = c .before .before .count-of in
     let has-fields = c .before .has-fields in
-    made-none _ _ (line-miscounted _ (if1 .left) (field .ensures) (name-of .ensures) (count-of .ensures) (has-fields .ensures) (c .if2 .taken))
+    read-none _ _ (line-miscounted _ (if1 .left) (field .ensures) (name-of .ensures) (count-of .ensures) (has-fields .ensures) (c .if2 .taken))
 
 number-at-requires : tie.Need-number-at-requires
 number-at-requires c κs = search needs
@@ -58,7 +58,7 @@ returns-3 c =
     let if2 = c .before .before .before .before .before .if2 in
     let number-at = c .before .before .before .before .number-at in
     let number-at2 = c .before .before .before .number-at2 in
-    made-none _ _ (line-unread _ (if1 .left) (field .ensures) (name-of .ensures) (count-of .ensures) (has-fields .ensures) (if2 .left) _ _ _ _ (number-at .ensures .0) (number-at2 .ensures .0) (c .if3 .taken))
+    read-none _ _ (line-unread _ (if1 .left) (field .ensures) (name-of .ensures) (count-of .ensures) (has-fields .ensures) (if2 .left) _ _ _ _ (number-at .ensures .0) (number-at2 .ensures .0) (c .if3 .taken))
 
 named-line-requires : tie.Need-named-line-requires
 named-line-requires c κs = search needs
@@ -78,7 +78,7 @@ returns-4 c =
     let number-at2 = c .before .before .before .before .before .before .before .number-at2 in
     let if3 = c .before .before .before .before .if3 in
     let named-line = c .before .before .named-line in
-    made-as _ _ (named-line .ensures) (line-read _ (if1 .left) (field .ensures) (name-of .ensures) (count-of .ensures) (has-fields .ensures) (if2 .left) _ _ _ _ (number-at .ensures .0) (number-at2 .ensures .0) (if3 .left))
+    read-as _ _ (named-line .ensures) (line-read _ (if1 .left) (field .ensures) (name-of .ensures) (count-of .ensures) (has-fields .ensures) (if2 .left) _ _ _ _ (number-at .ensures .0) (number-at2 .ensures .0) (if3 .left))
 
 pub line-call-spec : {M : Type 1} → statement M
 line-call-spec =

@@ -1,4 +1,4 @@
-use Rattle.call_lines.specs.LineLaws.{made-call, load-bad, key-within, load-read}
+use Rattle.call_lines.specs.LineLaws.{read-call, load-bad, key-within, load-read}
 use borrow.Author.Needs.{needs}
 use Rattle.call_lines.proofs.calls.load_line.Statement.{statement}
 use Rattle.call_lines.proofs.calls.load_line.Tie as tie
@@ -46,7 +46,7 @@ returns-2 c =
     let hex = c .before .before .before .before .before .before .before .before .before .before .before .hex in
     let if1 = c .before .before .before .before .before .before .before .before .if1 in
     let load = c .before .before .load in
-    made-call _ _ (load .ensures) (load-read _ _ _ _ _ (particulars-of .ensures) (field .ensures) (hex .ensures) (if1 .left))
+    read-call _ _ (load .ensures) (load-read _ _ _ _ _ (particulars-of .ensures) (field .ensures) (hex .ensures) (if1 .left))
 
 pub load-line-spec : {M : Type 1} → statement M
 load-line-spec =

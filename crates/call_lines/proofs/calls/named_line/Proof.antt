@@ -1,5 +1,5 @@
 use Rattle.call_lines.specs.Line.{callBy}
-use Rattle.call_lines.specs.LineLaws.{made-none, made-as, made-call}
+use Rattle.call_lines.specs.LineLaws.{read-none, read-as, read-call}
 use borrow.Author.Needs.{needs}
 use Rattle.call_lines.proofs.calls.named_line.Statement.{statement}
 use Rattle.call_lines.proofs.calls.named_line.Tie as tie
@@ -93,81 +93,81 @@ same-length c = search needs
 
 returns : tie.Need-returns
 unfolding callBy
-returns c = made-as _ _ (c .before .before .load-line .ensures) (rw (c .before .before .before .before .enum-told .given .1))
+returns c = read-as _ _ (c .before .before .load-line .ensures) (rw (c .before .before .before .before .enum-told .given .1))
 
 same-length-2 : tie.Need-same-length-2
 same-length-2 c = search needs
 
 returns-2 : tie.Need-returns-2
 unfolding callBy
-returns-2 c = made-call _ _ (c .before .before .login .ensures) (rw (c .before .before .before .before .before .enum-told2 .given .1, c .before .before .before .field .ensures))
+returns-2 c = read-call _ _ (c .before .before .login .ensures) (rw (c .before .before .before .before .before .enum-told2 .given .1, c .before .before .before .field .ensures))
 
 same-length-3 : tie.Need-same-length-3
 same-length-3 c = search needs
 
 returns-3 : tie.Need-returns-3
 unfolding callBy
-returns-3 c = made-as _ _ (c .before .before .challenge-line .ensures) (rw (c .before .before .before .before .enum-told3 .given .1))
+returns-3 c = read-as _ _ (c .before .before .challenge-line .ensures) (rw (c .before .before .before .before .enum-told3 .given .1))
 
 same-length-4 : tie.Need-same-length-4
 same-length-4 c = search needs
 
 returns-4 : tie.Need-returns-4
 unfolding callBy
-returns-4 c = made-call _ _ (c .before .before .activate .ensures) (rw (c .before .before .before .before .before .before .enum-told4 .given .1, c .before .before .before .before .field2 .ensures, c .before .before .before .field3 .ensures))
+returns-4 c = read-call _ _ (c .before .before .activate .ensures) (rw (c .before .before .before .before .before .before .enum-told4 .given .1, c .before .before .before .before .field2 .ensures, c .before .before .before .field3 .ensures))
 
 same-length-5 : tie.Need-same-length-5
 same-length-5 c = search needs
 
 returns-5 : tie.Need-returns-5
 unfolding callBy
-returns-5 c = made-call _ _ (c .before .before .lock .ensures) (rw (c .before .before .before .before .enum-told5 .given .1))
+returns-5 c = read-call _ _ (c .before .before .lock .ensures) (rw (c .before .before .before .before .enum-told5 .given .1))
 
 same-length-6 : tie.Need-same-length-6
 same-length-6 c = search needs
 
 returns-6 : tie.Need-returns-6
 unfolding callBy
-returns-6 c = made-call _ _ (c .before .before .suspend .ensures) (rw (c .before .before .before .before .enum-told6 .given .1))
+returns-6 c = read-call _ _ (c .before .before .suspend .ensures) (rw (c .before .before .before .before .enum-told6 .given .1))
 
 same-length-7 : tie.Need-same-length-7
 same-length-7 c = search needs
 
 returns-7 : tie.Need-returns-7
 unfolding callBy
-returns-7 c = made-call _ _ (c .before .before .void .ensures) (rw (c .before .before .before .before .enum-told7 .given .1))
+returns-7 c = read-call _ _ (c .before .before .void .ensures) (rw (c .before .before .before .before .enum-told7 .given .1))
 
 same-length-8 : tie.Need-same-length-8
 same-length-8 c = search needs
 
 returns-8 : tie.Need-returns-8
 unfolding callBy
-returns-8 c = made-call _ _ (c .query .ensures) (rw (c .before .before .enum-told8 .given .1))
+returns-8 c = read-call _ _ (c .query .ensures) (rw (c .before .before .enum-told8 .given .1))
 
 same-length-9 : tie.Need-same-length-9
 same-length-9 c = search needs
 
 returns-9 : tie.Need-returns-9
 unfolding callBy
-returns-9 c = made-call _ _ (c .before .before .unlock .ensures) (rw (c .before .before .before .before .before .enum-told9 .given .1, c .before .before .before .field4 .ensures))
+returns-9 c = read-call _ _ (c .before .before .unlock .ensures) (rw (c .before .before .before .before .before .enum-told9 .given .1, c .before .before .before .field4 .ensures))
 
 same-length-10 : tie.Need-same-length-10
 same-length-10 c = search needs
 
 returns-10 : tie.Need-returns-10
 unfolding callBy
-returns-10 c = made-call _ _ (c .before .before .resume .ensures) (rw (c .before .before .before .before .before .enum-told10 .given .1, c .before .before .before .field5 .ensures))
+returns-10 c = read-call _ _ (c .before .before .resume .ensures) (rw (c .before .before .before .before .before .enum-told10 .given .1, c .before .before .before .field5 .ensures))
 
 same-length-11 : tie.Need-same-length-11
 same-length-11 c = search needs
 
 returns-11 : tie.Need-returns-11
 unfolding callBy
-returns-11 c = made-as _ _ (c .before .before .sync-line .ensures) (rw (c .before .before .before .before .enum-told11 .given .1))
+returns-11 c = read-as _ _ (c .before .before .sync-line .ensures) (rw (c .before .before .before .before .enum-told11 .given .1))
 
 returns-12 : tie.Need-returns-12
 unfolding callBy
-returns-12 c = made-none _ _ (rw (c .enum-told12 .given .1))
+returns-12 c = read-none _ _ (rw (c .enum-told12 .given .1))
 
 pub named-line-spec : {M : Type 1} → statement M
 named-line-spec =

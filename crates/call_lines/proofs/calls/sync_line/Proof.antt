@@ -1,4 +1,4 @@
-use Rattle.call_lines.specs.LineLaws.{made-none, made-call, sync-bad, sync-read}
+use Rattle.call_lines.specs.LineLaws.{read-none, read-call, sync-bad, sync-read}
 use borrow.Author.Needs.{needs}
 use Rattle.call_lines.proofs.calls.sync_line.Statement.{statement}
 use Rattle.call_lines.proofs.calls.sync_line.Tie as tie
@@ -7,7 +7,7 @@ byte-at-requires : tie.Need-byte-at-requires
 byte-at-requires c κs = search needs
 
 returns : tie.Need-returns
-returns c = made-none _ _ (sync-bad _ _ _ _ _ (c .before .before .byte-at .ensures) (c .if1 .taken))
+returns c = read-none _ _ (sync-bad _ _ _ _ _ (c .before .before .byte-at .ensures) (c .if1 .taken))
 
 field-requires : tie.Need-field-requires
 field-requires c κs = search needs
@@ -28,7 +28,7 @@ returns-2 c =
     let field = c .before .before .before .before .field in
     let field2 = c .before .before .before .field2 in
     let sync = c .before .before .sync in
-    made-call _ _ (sync .ensures) (sync-read _ _ _ _ _ (byte-at .ensures) (if1 .left) (field .ensures) (field2 .ensures))
+    read-call _ _ (sync .ensures) (sync-read _ _ _ _ _ (byte-at .ensures) (if1 .left) (field .ensures) (field2 .ensures))
 
 pub sync-line-spec : {M : Type 1} → statement M
 sync-line-spec =
