@@ -6,3 +6,7 @@ pub mod PromiseLaws
 pub mod Walking
 pub mod WalkLaws
 pub mod OnlyLaws
+pub mod FrameLaws
+pub mod ItemLaws
+pub mod MacLaws
+pub mod ServingLaws
