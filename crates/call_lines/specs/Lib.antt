@@ -2,6 +2,7 @@
 pub mod Line
 pub mod Puts
 pub mod LineLaws
+pub mod MessageLineLaws
 pub mod FieldsLaws
 pub mod PrintingLaws
 pub mod AnswerLaws

@@ -14,6 +14,7 @@ use Rattle.token.specs.Codes.{Signed, numberOf, valuesOf}
 use Rattle.desk.specs.declared.Particulars.{Particulars}
 use Rattle.desk.specs.Requests.{DeskCall, loginCall, challengeCall, activateCall, lockCall, unlockCall, suspendCall, resumeCall, syncCall, voidCall, queryCall}
 use Rattle.desk.specs.Reads.{Reads, readAfter}
+use Rattle.message.specs.Serving.{messageReads}
 use Rattle.call_lines.specs.declared.Printed.{Printed}
 use Rattle.call_lines.specs.declared.names.Name.{Name}
 
@@ -132,7 +133,7 @@ callBy Name.Resume fields serial clock = Reads.serves (resumeCall (fieldOf field
 callBy Name.Sync fields serial clock = syncLine fields serial clock
 callBy Name.Unknown fields serial clock = notMade
 
--- every line has SERIAL behind its name, and a time at its end
+-- SERIAL stands behind the name, and a time at the end
 unfoldable pub fieldsRead : Name → List (List ℕ) → Reads
 fieldsRead name fields =
     cond (eqb (length fields) (countOf name))
@@ -141,9 +142,37 @@ fieldsRead name fields =
     (λ clock. callBy name fields serial clock)))
     notMade
 
+abbrev pub callLine : List (List ℕ) → Reads
+callLine fields = fieldsRead (nameOf (fieldOf fields 0)) fields
+
+-- ---- messages
+
+-- message
+abbrev pub messageWord : List ℕ
+messageWord = 0x6d ∷ 0x65 ∷ 0x73 ∷ 0x73 ∷ 0x61 ∷ 0x67 ∷ 0x65 ∷ []
+
+abbrev pub isMessage : List (List ℕ) → Bool
+isMessage fields = sameBytes (fieldOf fields 0) messageWord
+
+-- what the digits of a message are read into
+unfoldable pub messageIn : List ℕ → ℕ → Reads
+messageIn digits clock = given (hexOf digits) notMade (λ message. messageReads message clock)
+
+-- message,HEX,NOW
+unfoldable pub messageLine : List (List ℕ) → Reads
+messageLine fields =
+    cond (eqb (length fields) 3)
+    (given (numberBelow (2 ^ 64) (fieldOf fields 2)) notMade (λ clock. messageIn (fieldOf fields 1) clock))
+    notMade
+
+-- ---- a line
+
 -- what a line is read into; one of more than 4,096 bytes is not so made
 unfoldable pub readsOf : List ℕ → Reads
-readsOf line = cond (leb (length line) 4096) (fieldsRead (nameOf (fieldOf (fieldsOf line) 0)) (fieldsOf line)) notMade
+readsOf line =
+    cond (leb (length line) 4096)
+    (cond (isMessage (fieldsOf line)) (messageLine (fieldsOf line)) (callLine (fieldsOf line)))
+    notMade
 
 -- ---- answers
 
@@ -177,7 +206,7 @@ answerValues (Answer.Refused refusal) = []
 unfoldable pub answerText : Answer → List ℕ
 answerText answer = codeText (numberOf answer) ++ valuesText (answerValues answer)
 
--- ---- a line
+-- ---- what is printed, and the table after it
 
 -- the text printed for a line, without the line feed, and the table after it
 pub record Printing : Type 0 where

@@ -8,6 +8,7 @@ use native.Mathlib.Omega.{arith}
 use borrow.Author.Tests.{lt-ltb, le-ltb, lt-leb, le-leb, leb-false, ltb-false, eqb-true, ne-eqb, not-true, not-false}
 use lib.Dec.{eqb, leb, ltb}
 use lib.ListN.{length, take, drop}
+use Rattle.words.specs.Lists.{sameBytes}
 use Rattle.words.specs.BoolLaws.{by-test, and-left, and-right, and-false, impossible}
 use Rattle.otp.specs.Password.{challengeOk}
 use Rattle.row.specs.Row.{rowBytes}
@@ -25,7 +26,7 @@ use Rattle.desk.specs.Reads.{Reads, readAfter}
 use Rattle.desk.specs.LoadLaws.{long-key-bad}
 use Rattle.call_lines.specs.declared.Printed.{Printed}
 use Rattle.call_lines.specs.declared.names.Name.{Name}
-use Rattle.call_lines.specs.Line.{countOf, fieldOf, given, below, numberBelow, taken, notMade, particularsOf, loadLine, challengeLine, syncLine, callBy, fieldsRead, nameOf, readsOf, codeText, valuesText, answerText, lineAfter, printedOf, left, lineLeft}
+use Rattle.call_lines.specs.Line.{countOf, fieldOf, given, below, numberBelow, taken, notMade, particularsOf, loadLine, challengeLine, syncLine, callBy, fieldsRead, nameOf, callLine, messageWord, isMessage, messageLine, readsOf, codeText, valuesText, answerText, lineAfter, printedOf, left, lineLeft}
 
 -- ---- numbers
 
@@ -198,13 +199,21 @@ module _ (line : List ℕ) where
   unfolding readsOf
   line-long l = rw (lt-leb (length line) 4096 l)
 
-  module _ (short : length line ≤ 4096) {field : List ℕ} {name : Name} {count : ℕ} {right : Bool} (first : field ≡ fieldOf (fieldsOf line) 0) (named : name ≡ nameOf field)
-      (counts : count ≡ countOf name) (counted : right ≡ eqb (length (fieldsOf line)) count) where
-    by-name : readsOf line ≡ fieldsRead name (fieldsOf line)
+  module _ (short : length line ≤ 4096) {field : List ℕ} {right : Bool} (first : field ≡ fieldOf (fieldsOf line) 0) (named : right ≡ sameBytes field messageWord) where
+    pub line-message : right ≡ true → readsOf line ≡ messageLine (fieldsOf line)
     unfolding readsOf
-    by-name = rw (le-leb (length line) 4096 short, named, first)
+    line-message t = let is : isMessage (fieldsOf line) ≡ true = rw (← first) (sym named ∙ t) in rw (le-leb (length line) 4096 short, is)
 
-    pub line-miscounted : not right ≡ true → readsOf line ≡ notMade
+    pub line-call : right ≡ false → readsOf line ≡ callLine (fieldsOf line)
+    unfolding readsOf
+    line-call f = let is : isMessage (fieldsOf line) ≡ false = rw (← first) (sym named ∙ f) in rw (le-leb (length line) 4096 short, is)
+
+  module _ {field : List ℕ} {name : Name} {count : ℕ} {right : Bool} (first : field ≡ fieldOf (fieldsOf line) 0) (named : name ≡ nameOf field)
+      (counts : count ≡ countOf name) (counted : right ≡ eqb (length (fieldsOf line)) count) where
+    by-name : callLine (fieldsOf line) ≡ fieldsRead name (fieldsOf line)
+    by-name = rw (named, first)
+
+    pub line-miscounted : not right ≡ true → callLine (fieldsOf line) ≡ notMade
     unfolding fieldsRead
     line-miscounted t = rw (by-name, ← counts, ← counted, not-true right t)
 
@@ -213,7 +222,7 @@ module _ (line : List ℕ) where
 
     module _ (right-count : not right ≡ false) (serial clock : ℕ) (a b : Bool) (one : numberBelow (2 ^ 64) (fieldOf (fieldsOf line) 1) ≡ taken a serial)
         (last : numberBelow (2 ^ 64) (fieldOf (fieldsOf line) (count - 1)) ≡ taken b clock) where
-      pub line-unread : not (a && b) ≡ true → readsOf line ≡ notMade
+      pub line-unread : not (a && b) ≡ true → callLine (fieldsOf line) ≡ notMade
       unfolding fieldsRead taken
       line-unread t = rw (by-name, ← counts, ← counted, not-false right right-count, one, last) (both a b (not-true (a && b) t))
         where
@@ -221,7 +230,7 @@ module _ (line : List ℕ) where
           both false b e = refl
           both true b e = rw e
 
-      pub line-read : not (a && b) ≡ false → readsOf line ≡ callBy name (fieldsOf line) serial clock
+      pub line-read : not (a && b) ≡ false → callLine (fieldsOf line) ≡ callBy name (fieldsOf line) serial clock
       unfolding fieldsRead taken
       line-read t = rw (by-name, ← counts, ← counted, not-false right right-count, one, last) (both a b (not-false (a && b) t))
         where

@@ -4,6 +4,8 @@ use crate::fields::has_fields;
 use crate::names::Name;
 use crate::names::count_of;
 use crate::names::name_of;
+use crate::reading::LARGEST;
+use crate::reading::LARGEST_WORD;
 use crate::reading::byte_at;
 use crate::reading::number_at;
 use desk::Particulars;
@@ -30,13 +32,7 @@ ghost use Rattle.text.specs.Text.{fieldsOf};
 ghost use Rattle.window.specs.PasswordAt.{passwordAt};
 ghost use Rattle.desk.specs.Desk.{result};
 ghost use Rattle.desk.specs.Reads.{readAfter};
-ghost use Rattle.call_lines.specs.Line.{taken, particularsOf, loadLine, challengeLine, syncLine, callBy, readsOf};
-
-const LONGEST: usize = 4096;
-
-const LARGEST_WORD: u64 = 0xffff_ffff;
-
-const LARGEST: u64 = 0xffff_ffff_ffff_ffff;
+ghost use Rattle.call_lines.specs.Line.{taken, particularsOf, loadLine, challengeLine, syncLine, callBy, callLine};
 
 // The particulars of a load, where they were right.
 pub struct LoadRead {
@@ -143,12 +139,10 @@ fn named_line(table: &mut [u8], line: &[u8], name: Name, serial: u64, clock: Sec
 }
 
 // Makes the call of a line.
-pub(crate) fn line_call(table: &mut [u8], line: &[u8]) -> Answer
-    ensures { λ r. ⌜ result r (now (table .exit)) ≡ readAfter passwordAt (readsOf (now (line .entry))) (now (table .entry)) ⌝ }
+pub(crate) fn call_line(table: &mut [u8], line: &[u8]) -> Answer
+    requires { ⌜ length (now line) ≤ 4096 ⌝ }
+    ensures { λ r. ⌜ result r (now (table .exit)) ≡ readAfter passwordAt (callLine (fieldsOf (now (line .entry)))) (now (table .entry)) ⌝ }
 {
-    if LONGEST < line.len() {
-        return Answer::Refused(Refusal::BadArgument);
-    }
     let name = name_of(field(line, 0));
     let count = count_of(name);
     if !has_fields(line, count) {

@@ -10,6 +10,10 @@ ghost use Rattle.call_lines.specs.Line.{fieldOf, numberBelow, taken};
 
 const LARGEST_BYTE: u64 = 0xff;
 
+pub(crate) const LARGEST_WORD: u64 = 0xffff_ffff;
+
+pub(crate) const LARGEST: u64 = 0xffff_ffff_ffff_ffff;
+
 // A number, where it was right.
 pub struct Value {
     pub ok: bool,
