@@ -6,3 +6,5 @@ pub mod PromiseLaws
 pub mod Walking
 pub mod WalkLaws
 pub mod OnlyLaws
+pub mod ItemsReadLaws
+pub mod ReadLaws
