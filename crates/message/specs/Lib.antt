@@ -8,3 +8,4 @@ pub mod WalkLaws
 pub mod OnlyLaws
 pub mod ItemsReadLaws
 pub mod ReadLaws
+pub mod CodesLaws
