@@ -2,10 +2,11 @@
 pub mod Message
 pub mod Serving
 pub mod Promise
+pub mod FrameFacts
+pub mod ItemsReadLaws
+pub mod ReadLaws
+pub mod CodesLaws
 pub mod PromiseLaws
 pub mod Walking
 pub mod WalkLaws
 pub mod OnlyLaws
-pub mod ItemsReadLaws
-pub mod ReadLaws
-pub mod CodesLaws

@@ -3,66 +3,17 @@ use Prim.Native.Nat.{ℕ, _+_, _≤_}
 use mathlib.Core.Path.{_≡_, refl, sym, ap, _∙_}
 use mathlib.Core.Bool.{Bool, true, false, cond}
 use mathlib.Core.List.{List, [], _∷_, _++_, append-assoc}
-use mathlib.Core.Option.{Option, none, some}
 use native.Mathlib.Omega.{arith}
-use borrow.Author.Tests.{eqb-true, eq-eqb}
-use lib.Dec.{eqb}
 use lib.ListN.{length, getD, take, drop, length-append, length-drop}
 use lib.Seq.{length-take-le, take-at, drop-at, getD-at}
 use Rattle.words.specs.ListsLaws.{same-equal, same-refl}
 use Rattle.words.specs.Bytes.{AreBytes, beAt, beBytes}
 use Rattle.words.specs.BytesLaws.{beAt-lt, beAt-beBytes, length-beBytes}
-use Rattle.words.specs.BoolLaws.{and-left, and-right, by-test, impossible}
-use Rattle.message.specs.Message.{Message, marked, headLength, itemsBytes, bodyBytes, headBytes, macOf, bytesWith, itemsEnd, allPlain, kindIn, bodyStart, countIn, itemsStart, typeNamed, versionNamed, lengthsAddUp, attributesPlain, messageAt, frameFits, frameOf, withoutMac, macFits}
+use Rattle.message.specs.Message.{Message, marked, headLength, itemsBytes, bodyBytes, headBytes, macOf, bytesWith, kindIn, bodyStart, countIn, itemsStart, messageAt, frameOf, withoutMac, macFits}
 use Rattle.message.specs.Promise.{Fits, ReadExactly, MacExactly}
 use Rattle.message.specs.WalkLaws.{end-behind, length-itemsAt}
+use Rattle.message.specs.FrameFacts.{Facts, facts-fit, some-facts}
 use Rattle.message.specs.ItemsReadLaws.{ItemsRead, ItemsStand, items-read, byte-stands, bytes-stand, number-stands, items-stand}
-
--- ---- the tests as facts
-
-record Frame (s : List ℕ) : Type 0 where
-  named : typeNamed s ≡ true
-  version : getD s 2 0 ≡ 0x01
-  head : getD s 0 0 ≡ bodyStart s
-  sum : bodyStart s + beAt 2 s 19 ≡ length s
-  end : itemsEnd (countIn s) s (itemsStart s) ≡ length s
-  plain : allPlain (countIn s) s (itemsStart s) ≡ true
-
-module _ (s : List ℕ) where
-  frame-fits : frameFits s ≡ true → Frame s
-  unfolding frameFits lengthsAddUp attributesPlain
-  frame-fits t =
-      let behindType = and-right (typeNamed s) _ t in
-      let behindVersion = and-right (versionNamed s) _ behindType in
-      let lengths = and-left _ _ behindVersion in
-      let sums = and-right (eqb (getD s 0 0) (bodyStart s)) _ lengths in
-      record {
-        named = and-left _ _ t;
-        version = eqb-true (getD s 2 0) 0x01 (and-left _ _ behindType);
-        head = eqb-true (getD s 0 0) (bodyStart s) (and-left _ _ lengths);
-        sum = eqb-true (bodyStart s + beAt 2 s 19) (length s) (and-left _ _ sums);
-        end = eqb-true (itemsEnd (countIn s) s (itemsStart s)) (length s) (and-right (eqb (bodyStart s + beAt 2 s 19) (length s)) _ sums);
-        plain = and-right (lengthsAddUp s) _ behindVersion;
-      }
-
-  fits-frame : Frame s → frameFits s ≡ true
-  unfolding frameFits lengthsAddUp attributesPlain
-  fits-frame f =
-      rw (
-        f .named,
-        f .plain,
-        eq-eqb (getD s 2 0) 0x01 (f .version),
-        eq-eqb (getD s 0 0) (bodyStart s) (f .head),
-        eq-eqb (bodyStart s + beAt 2 s 19) (length s) (f .sum),
-        eq-eqb (itemsEnd (countIn s) s (itemsStart s)) (length s) (f .end),
-      )
-
-  frame-some : (m : Message) → frameOf s ≡ some m → Frame s × (messageAt s ≡ m)
-  unfolding frameOf
-  frame-some m e =
-      by-test (frameFits s)
-      (λ t. let same : some (messageAt s) ≡ some m = rw t at e in (frame-fits t, cc))
-      (λ f. let other : _≡_ {A = Option Message} none (some m) = rw f at e in impossible (cc))
 
 -- ---- the bytes of a head before what follows it
 
@@ -107,7 +58,7 @@ module _ (s : List ℕ) (h : AreBytes s) where
       let options : drop (start + 2) s ≡ beBytes 2 (beAt 2 s (start + 2)) ++ drop (start + 4) s = number-stands s (start + 2) 2 h (omega arith) ∙ rw a in
       rw (← count, ← options) (sym (number-stands s start 2 h (omega arith)))
 
-  module _ (f : Frame s) where
+  module _ (f : Facts s) where
     abbrev macIn : List ℕ
     macIn = take 4 (drop 21 s)
 
@@ -221,8 +172,8 @@ module _ (mac : List ℕ) (m : Message) (f : Fits mac m) where
   length-written : headLength (m .kind) + length (bodyBytes m) ≡ length written
   length-written = sym (ap length behind-front ∙ length-append front (bodyBytes m) ∙ rw length-front)
 
-  frame-written : Frame written
-  frame-written =
+  facts-written : Facts written
+  facts-written =
       record {
         named = rw kind-read (f .named);
         version = rw (head-before m);
@@ -241,8 +192,8 @@ module _ (mac : List ℕ) (m : Message) (f : Fits mac m) where
 pub read-exactly : ReadExactly
 unfolding frameOf
 read-exactly s m h = (
-  λ e. let r = frame-some s m e in rw (← r .1) (macIn s h (r .0), (fits-here s h (r .0), whole-here s h (r .0))),
-  λ x. let mac = x .0 in let f = x .1 .0 in rw (x .1 .1, fits-frame _ (frame-written mac m f), message-read mac m f),
+  λ e. let r = some-facts s m e in rw (← r .1) (macIn s h (r .0), (fits-here s h (r .0), whole-here s h (r .0))),
+  λ x. let mac = x .0 in let f = x .1 .0 in rw (x .1 .1, facts-fit _ (facts-written mac m f), message-read mac m f),
 )
 
 without-mac : (m : Message) (mac : List ℕ) → length mac ≡ 4 → withoutMac (headBytes m ++ (mac ++ bodyBytes m)) ≡ headBytes m ++ bodyBytes m
