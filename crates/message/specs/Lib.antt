@@ -6,6 +6,7 @@ pub mod FrameFacts
 pub mod ItemsReadLaws
 pub mod ReadLaws
 pub mod CodesLaws
+pub mod MessageExamples
 pub mod PromiseLaws
 pub mod Walking
 pub mod WalkLaws
