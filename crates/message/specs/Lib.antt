@@ -2,6 +2,11 @@
 pub mod Message
 pub mod Serving
 pub mod Promise
+pub mod FrameFacts
+pub mod ItemsReadLaws
+pub mod ReadLaws
+pub mod CodesLaws
+pub mod MessageExamples
 pub mod PromiseLaws
 pub mod Walking
 pub mod WalkLaws
