@@ -13,6 +13,7 @@ use Rattle.message.specs.Message.{Message, marked, headLength, itemsByte
 use Rattle.message.specs.Promise.{Fits, ReadExactly, MacExactly}
 use Rattle.message.specs.WalkLaws.{end-behind, length-itemsAt}
 use Rattle.message.specs.FrameFacts.{Facts, facts-fit, some-facts}
+use Rattle.message.specs.FrameLaws.{head-long}
 use Rattle.message.specs.ItemsReadLaws.{ItemsRead, ItemsStand, items-read, byte-stands, bytes-stand, number-stands, items-stand}
 
 -- ---- the bytes of a head before what follows it
@@ -27,10 +28,6 @@ unfolding headBytes
 length-head m = simp (length-append, length-beBytes)
 
 -- ---- what was read stands there
-
-head-long : (b : Bool) → 21 ≤ cond {A = ℕ} b 25 21
-head-long true = omega arith
-head-long false = omega arith
 
 mac-stands : (s : List ℕ) (b : Bool) → cond b (take 4 (drop 21 s)) [] ++ drop (cond b 25 21) s ≡ drop 21 s
 mac-stands s true = sym (bytes-stand s 21 4)
@@ -78,7 +75,7 @@ module _ (s : List ℕ) (h : AreBytes s) where
     whole-here : s ≡ bytesWith macIn (messageAt s)
     unfolding messageAt
     whole-here =
-        let long = head-long (marked (kindIn s)) in
+        let long = head-long (kindIn s) .0 in
         let r = room in
         let stands = rw (f .head, f .version) at (head-stands (omega arith)) in
         sym (head-before (messageAt s) _ ∙ rw (body-long, body-here, mac-stands s (marked (kindIn s))) stands)
