@@ -55,7 +55,7 @@ mod password;
 mod refusal;
 mod units;
 
-pub use answer::{Accepted, Answer, Call, State, Status};
+pub use answer::{Accepted, Answer, Call, Served, State, Status};
 pub use check::{Checked, Track, Window};
 pub use cipher::{sm4, Sm4Keys};
 pub use desk::{Desk, Kind, Particulars, SyncWindow, MOST_ROWS, ROW_BYTES};
