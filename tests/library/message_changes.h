@@ -89,7 +89,7 @@ static inline void each_length(void)
             random_bytes(changed.bytes + changed.len, BEHIND);
             changed.len = len;
             try_change(&right, &changed);
-            mend_lengths(&changed);
+            mend_lengths(changed.bytes, changed.len);
             try_change(&right, &changed);
         }
     messages_came_up(BAD_MESSAGE | LOGGED_IN | CHECKED | PLAIN);

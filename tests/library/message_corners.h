@@ -71,6 +71,8 @@ static const struct message_corner served_corners[] = {
     {"challenge login with the login's password", PLAIN_HEAD "0023 0002 0000 03" SERIAL_7 QUAY " 00 0007 06 313233343536", READY, 0x8002, 0, {0},
      {{ROW_ERRORS, 1}}},
     {"seven digits", PLAIN_HEAD "001c 0001 0000 02" SERIAL_7 " 00 0003 07 31323334353637", READY, 0x8002, 0, {0}, {{ROW_ERRORS, 1}}},
+    {"eight digits, as many as the serial has bytes, before it", PLAIN_HEAD "001d 0001 0000 02 00 0003 08 3132333435363738" SERIAL_7, READY,
+     0x8002, 0, {0}, {{ROW_ERRORS, 1}}},
     {"a password of no bytes", PLAIN_HEAD "0015 0001 0000 02" SERIAL_7 " 00 0003 00", READY, 0x9005, UNCHANGED},
     {"a password with a letter", PLAIN_HEAD "001b 0001 0000 02" SERIAL_7 " 00 0003 06 31323334356f", READY, 0x9005, UNCHANGED},
     {"a challenge of no bytes", PLAIN_HEAD "001f 0002 0000 03" SERIAL_7 " 00 0006 00" BY_QUAY, READY, 0x9005, UNCHANGED},

@@ -129,16 +129,6 @@ static inline void take_out(struct message_bytes *message, size_t place, size_t 
     message->len -= n;
 }
 
-// The lengths of header and body as the type and the message's length want them.
-static inline void mend_lengths(struct message_bytes *message)
-{
-    size_t head_len = head_len_of(message->bytes[1]);
-    if (message->len < head_len)
-        return;
-    message->bytes[0] = (uint8_t)head_len;
-    otp_put_number(message->bytes + MESSAGE_HEAD - 2, message->len - head_len, 2);
-}
-
 static inline void damage_bytes(struct message_bytes *message)
 {
     if (message->len < 2)
@@ -154,7 +144,7 @@ static inline void damage_bytes(struct message_bytes *message)
     default: message->bytes[place] = any_byte(message->bytes[place]);
     }
     if (one_in(2))
-        mend_lengths(message);
+        mend_lengths(message->bytes, message->len);
     if (one_in(2))
         seal(message->bytes, message->len);
 }

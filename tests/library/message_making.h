@@ -113,6 +113,15 @@ static inline void seal(uint8_t *bytes, size_t len)
         message_make_mac(bytes, len, bytes + MESSAGE_HEAD);
 }
 
+// The lengths of header and body as the type and the message's length want them.
+static inline void mend_lengths(uint8_t *bytes, size_t len)
+{
+    if (len < MESSAGE_HEAD || len < head_len_of(bytes[1]))
+        return;
+    bytes[0] = (uint8_t)head_len_of(bytes[1]);
+    otp_put_number(bytes + MESSAGE_HEAD - 2, len - head_len_of(bytes[1]), 2);
+}
+
 // The MAC's place has zeros.
 static inline void write_head(struct message_bytes *to, const struct made_message *made, size_t body_len)
 {
@@ -144,6 +153,18 @@ static inline void write_message(struct message_bytes *to, const struct made_mes
         to->len += item->len;
     }
     seal(to->bytes, to->len);
+}
+
+// Of hexadecimal digits with blanks between bytes.
+static inline void read_hex(struct message_bytes *message, const char *hex)
+{
+    message->len = 0;
+    for (; *hex != '\0'; hex++) {
+        if (*hex == ' ')
+            continue;
+        message->bytes[message->len++] = (uint8_t)(otp_hex_digit(hex[0]) << 4 | otp_hex_digit(hex[1]));
+        hex++;
+    }
 }
 
 // These bytes on the call's table, at its clock.

@@ -10,17 +10,6 @@
 
 // ---- messages that are written out
 
-static void read_hex(struct message_bytes *message, const char *hex)
-{
-    message->len = 0;
-    for (; *hex != '\0'; hex++) {
-        if (*hex == ' ')
-            continue;
-        message->bytes[message->len++] = (uint8_t)(otp_hex_digit(hex[0]) << 4 | otp_hex_digit(hex[1]));
-        hex++;
-    }
-}
-
 // The token's key is the first number whose password at step 35, by SM3, is the page's 123456.
 static struct message_sent lay_place(const struct message_bytes *message, enum corner_place place)
 {
