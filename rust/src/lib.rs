@@ -42,6 +42,8 @@
 //! assert_eq!(desk.query(token.serial, later)?.errors, 0);
 //! # Ok::<(), Refusal>(())
 //! ```
+//!
+//! A request may also come as a message of GM/T 0021-2012, Annex D: [`Desk::serve`] makes the call that it asks for.
 #![deny(missing_docs, unsafe_code)]
 
 mod answer;

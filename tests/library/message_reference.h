@@ -18,6 +18,7 @@ enum {
     MESSAGE_HEAD = 21, // bytes, without the MAC
     MESSAGE_MAC = 4,
     MESSAGE_MOST_ITEMS = 255,
+    MESSAGE_CALL_ITEMS = 3, // the most of a call
     MESSAGE_SERIAL_LEN = 8,
 };
 
@@ -116,8 +117,6 @@ static inline int message_read(const struct message_sent *sent, struct message *
 enum message_identifier {
     ITEM_SERIAL = 0x0002, ITEM_PASSWORD = 0x0003, ITEM_FOLLOWING = 0x0004, ITEM_CHALLENGE = 0x0006, ITEM_RESPONSE = 0x0007,
 };
-
-enum { MESSAGE_CALL_ITEMS = 3 };
 
 static const struct message_service {
     uint64_t service;
