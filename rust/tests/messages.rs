@@ -1,13 +1,14 @@
-//! Requests as messages (GM/T 0021-2012, Annex D; document 02, request 1): the two that are printed, one for each service, and one for each refusal of
-//! a message, every byte of the table compared.
+//! Requests as messages (GM/T 0021-2012, Annex D; document 02, request 1): an example plain and with its MAC, one for each service,
+//! and one for each refusal of a message, every byte of the table compared.
 use dykeladder::{
     Accepted, Algorithm, Answer, Call, Desk, Kind, Offset, Particulars, Refusal, Seconds, Serial, Served, State, Status, Step,
     ROW_BYTES,
 };
 
 const NOW: Seconds = Seconds(1060);
-const PRINTED: &str = "15000100000000000000003132333435363738001b000100000200000208000000000000000700000306313233343536";
-const PRINTED_WITH_MAC: &str =
+// A login, serial 7 and password 123456.
+const EXAMPLE: &str = "15000100000000000000003132333435363738001b000100000200000208000000000000000700000306313233343536";
+const EXAMPLE_WITH_MAC: &str =
     "19800100000000000000003132333435363738001b9a719e86000100000200000208000000000000000700000306313233343536";
 
 // What the header has before the length of the body, without a MAC and with one.
@@ -60,12 +61,12 @@ const FIRST: Accepted = Accepted { step: Step(35), offset: Offset(0) };
 const SECOND: Accepted = Accepted { step: Step(36), offset: Offset(1) };
 
 #[test]
-fn the_printed_ones() {
-    for printed in [PRINTED, PRINTED_WITH_MAC] {
+fn the_example() {
+    for example in [EXAMPLE, EXAMPLE_WITH_MAC] {
         let served = Served::Checked(Call::Login, FIRST);
-        assert_served(&bytes(printed), row(2), Ok(served), with_accepted(row(2), FIRST));
-        assert_served(&bytes(printed), row(1), Err(Refusal::TokenNotActivated), row(1));
-        assert_served(&bytes(printed), [0; ROW_BYTES], Err(Refusal::NoToken), [0; ROW_BYTES]);
+        assert_served(&bytes(example), row(2), Ok(served), with_accepted(row(2), FIRST));
+        assert_served(&bytes(example), row(1), Err(Refusal::TokenNotActivated), row(1));
+        assert_served(&bytes(example), [0; ROW_BYTES], Err(Refusal::NoToken), [0; ROW_BYTES]);
     }
 }
 
@@ -124,9 +125,9 @@ fn that_are_refused() {
 
 #[test]
 fn with_any_one_bit_wrong() {
-    let printed = bytes(PRINTED_WITH_MAC);
-    for bit in 0..8 * printed.len() {
-        let mut wrong = printed.clone();
+    let example = bytes(EXAMPLE_WITH_MAC);
+    for bit in 0..8 * example.len() {
+        let mut wrong = example.clone();
         wrong[bit / 8] ^= 1 << (bit % 8);
         let mut table = row(2);
         let answer = Desk::new(&mut table).serve(&wrong, NOW);
@@ -137,10 +138,10 @@ fn with_any_one_bit_wrong() {
 
 #[test]
 fn of_any_length() {
-    let printed = bytes(PRINTED);
+    let example = bytes(EXAMPLE);
     let zeros = vec![0; 65_600];
-    for length in (0..printed.len()).chain([printed.len() + 1, zeros.len()]) {
-        let message: Vec<_> = printed.iter().chain(&zeros).copied().take(length).collect();
+    for length in (0..example.len()).chain([example.len() + 1, zeros.len()]) {
+        let message: Vec<_> = example.iter().chain(&zeros).copied().take(length).collect();
         assert_served(&message, row(2), Err(Refusal::BadMessage), row(2));
     }
 }

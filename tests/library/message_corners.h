@@ -15,9 +15,9 @@
 #define QUAY " 00 0006 04 71756179"
 #define BY_QUAY " 00 0007 06 363139323435" // the password of step 35 for this challenge, 619245
 
-// The two messages of a login that the request's page prints.
-#define PRINTED "15000100000000000000003132333435363738001b000100000200000208000000000000000700000306313233343536"
-#define PRINTED_SEALED "19800100000000000000003132333435363738001b9a719e86000100000200000208000000000000000700000306313233343536"
+// The example of a login, serial 7 and password 123456, plain and with its MAC.
+#define PLAIN_EXAMPLE "15000100000000000000003132333435363738001b000100000200000208000000000000000700000306313233343536"
+#define SEALED_EXAMPLE "19800100000000000000003132333435363738001b9a719e86000100000200000208000000000000000700000306313233343536"
 
 // ---- the messages
 
@@ -41,8 +41,8 @@ struct message_corner {
 
 // Every service, plain or with its MAC, and what is no fault of a message.
 static const struct message_corner served_corners[] = {
-    {"the page's login", PRINTED, READY, 0x0001, STEP_35},
-    {"the page's login with a MAC", PRINTED_SEALED, READY, 0x0001, STEP_35},
+    {"the example", PLAIN_EXAMPLE, READY, 0x0001, STEP_35},
+    {"the example with a MAC", SEALED_EXAMPLE, READY, 0x0001, STEP_35},
     {"items in the other order", PLAIN_HEAD "001b 0001 0000 02" OF_STEP_35 SERIAL_7, READY, 0x0001, STEP_35},
     {"the same with a MAC", SEALED_HEAD "001b 1de8cfa6 0001 0000 02" OF_STEP_35 SERIAL_7, READY, 0x0001, STEP_35},
     {"any caller and call number", "15 00 01 ffffffffffffffff 0000000000000000 001b 0001 0000 02" SERIAL_7 OF_STEP_35, READY, 0x0001, STEP_35},
@@ -64,8 +64,8 @@ static const struct message_corner served_corners[] = {
     {"query", SEALED_HEAD "0011 f7b6ba5e 010b 0000 01" SERIAL_7, READY, 0x010b, 3, {2, 0, 0}, KEPT},
     {"query of the last serial", PLAIN_HEAD "0011 010b 0000 01 00 0002 08 ffffffffffffffff", ON_ZERO_ROWS, 0x8402, UNCHANGED},
     {"serial 7 as if its bytes were turned round", PLAIN_HEAD "0011 0102 0000 01 00 0002 08 0700000000000000", READY, 0x8402, UNCHANGED},
-    {"the page's login on zero rows", PRINTED, ON_ZERO_ROWS, 0x8402, UNCHANGED},
-    {"the page's login, not activated", PRINTED_SEALED, NOT_ACTIVATED, 0x8406, UNCHANGED},
+    {"the example on zero rows", PLAIN_EXAMPLE, ON_ZERO_ROWS, 0x8402, UNCHANGED},
+    {"the example, not activated", SEALED_EXAMPLE, NOT_ACTIVATED, 0x8406, UNCHANGED},
     {"activate with its passwords exchanged", PLAIN_HEAD "0025 0101 0000 03" SERIAL_7 " 00 0003 06 313830313330 00 0004 06 313233343536",
      NOT_ACTIVATED, 0x8102, 0, {0}, {{ROW_ERRORS, 1}}},
     {"challenge login with the login's password", PLAIN_HEAD "0023 0002 0000 03" SERIAL_7 QUAY " 00 0007 06 313233343536", READY, 0x8002, 0, {0},
@@ -77,8 +77,8 @@ static const struct message_corner served_corners[] = {
     {"a password with a letter", PLAIN_HEAD "001b 0001 0000 02" SERIAL_7 " 00 0003 06 31323334356f", READY, 0x9005, UNCHANGED},
     {"a challenge of no bytes", PLAIN_HEAD "001f 0002 0000 03" SERIAL_7 " 00 0006 00" BY_QUAY, READY, 0x9005, UNCHANGED},
     {"a response of no bytes", PLAIN_HEAD "001d 0002 0000 03" SERIAL_7 QUAY " 00 0007 00", READY, 0x9005, UNCHANGED},
-    {"the page's login at 2^40", PRINTED, AT_CLOCK_END, 0x9005, UNCHANGED},
-    {"the page's login on five bytes", PRINTED_SEALED, ON_FIVE_BYTES, 0x9005, UNCHANGED},
+    {"the example at 2^40", PLAIN_EXAMPLE, AT_CLOCK_END, 0x9005, UNCHANGED},
+    {"the example on five bytes", SEALED_EXAMPLE, ON_FIVE_BYTES, 0x9005, UNCHANGED},
     {"query at 2^40", PLAIN_HEAD "0011 010b 0000 01" SERIAL_7, AT_CLOCK_END, 0x9005, UNCHANGED},
 };
 
@@ -92,7 +92,7 @@ static const struct {
     {"the header alone", PLAIN_HEAD "001b", 0x9001},
     {"the header alone, as it says", PLAIN_HEAD "0000", 0x9001},
     {"the header with a MAC alone", SEALED_HEAD "001b 9a719e86", 0x9001},
-    {"one byte more", PRINTED "00", 0x9001},
+    {"one byte more", PLAIN_EXAMPLE "00", 0x9001},
     {"one byte less", PLAIN_HEAD "001b 0001 0000 02" SERIAL_7 " 00 0003 06 3132333435", 0x9001},
     {"a body one longer than it says", PLAIN_HEAD "001a 0001 0000 02" SERIAL_7 OF_STEP_35, 0x9001},
     {"a body one shorter than it says", PLAIN_HEAD "001c 0001 0000 02" SERIAL_7 OF_STEP_35, 0x9001},

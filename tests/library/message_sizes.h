@@ -106,7 +106,7 @@ static inline void longest(void)
     messages_came_up(UNSERVED);
 }
 
-// The printed login with 65,536 bytes or more behind it, so that the length of its body is right in its last two bytes.
+// A login with 65,536 bytes or more behind it, so that the length of its body is right in its last two bytes.
 static inline void too_long(void)
 {
     static const uint8_t body[] = {0, 1, 0, 0, 2, 0, 0, 2, 8, 0, 0, 0, 0, 0, 0, 0, 7, 0, 0, 3, 6, '1', '2', '3', '4', '5', '6'};

@@ -10,7 +10,7 @@
 
 // ---- messages that are written out
 
-// The token's key is the first number whose password at step 35, by SM3, is the page's 123456.
+// The token's key is the first number whose password at step 35, by SM3, is 123456.
 static struct message_sent lay_place(const struct message_bytes *message, enum corner_place place)
 {
     static const uint64_t key = 103142;
