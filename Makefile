@@ -1,5 +1,6 @@
 # make          prove and build everything, then show the hash, the cipher, the line program and a short day at the desk
 # make test     all tests; the last line is 'N passed, M failed'
+# make fuzz [SECONDS=300]   messages by a fuzzer, beside the reader of the tests; no part of make test
 # make bench    the times beside other libraries; writes docs/BENCHMARKS.md
 # make install [PREFIX=/usr/local] [DESTDIR=]   the C library: archive, header, pkg-config file; make uninstall removes them
 # make check NAME=crate   prove one crate and what it depends on
@@ -9,7 +10,7 @@
 SHELL := bash
 .SHELLFLAGS := -o pipefail -c
 
-.PHONY: show test bench install uninstall check fmt clean
+.PHONY: show test fuzz bench install uninstall check fmt clean
 
 # Lines key,T,C,Q,algorithm,digits of the line program: document 01's example, then ten digits, SM3, a count alone, a key too short.
 key := 1234567890abcdef1234567890abcdef
@@ -52,6 +53,9 @@ install: $(archive)
 
 uninstall:
 	@rm -f $(installed)
+
+fuzz: $(archive)
+	@tests/fuzz/run $(SECONDS)
 
 check:
 	@rt check $(NAME)

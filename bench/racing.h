@@ -89,7 +89,7 @@ static inline void print_race(const struct race *race)
         char wanted[16] = "none";
         if (target > 0)
             snprintf(wanted, sizeof wanted, "%.1f", target);
-        printf("| %-28s | %-14s | %10.0f | %-25s | %10.0f | %11.2f | %6s | %-3s |\n", race->what, ours->name, ours->best,
+        printf("| %-28s | %-16s | %10.0f | %-25s | %10.0f | %11.2f | %6s | %-3s |\n", race->what, ours->name, ours->best,
                peer->name, peer->best, ratio, wanted, target == 0 ? "-" : ratio >= target ? "yes" : "NO");
     }
 }

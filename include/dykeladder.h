@@ -34,8 +34,8 @@ extern "C" {
 #endif
 
 /* The version of this header; as a number 0xMMmmpp, to be compared. */
-#define DL_VERSION        "0.5.0"
-#define DL_VERSION_NUMBER 0x000500
+#define DL_VERSION        "0.6.0"
+#define DL_VERSION_NUMBER 0x000600
 
 /* The version that the program was compiled with, DL_VERSION. */
 static inline const char *dl_version(void)
@@ -65,6 +65,9 @@ static inline const char *dl_version(void)
  * DL_MANAGEMENT_NEXT_WANTED, all but what a wait that has run out sets (see
  * "The desk" below).
  */
+#define DL_BAD_MESSAGE         0x9001 /* dl_serve_message: the message is not made as a request is */
+#define DL_BAD_MAC             0x9002 /* dl_serve_message: the MAC is not that of the message */
+#define DL_NO_SERVICE          0x9004 /* dl_serve_message: the service has no call */
 #define DL_BAD_ARGUMENT        0x9005 /* a length or a value is out of range */
 #define DL_SERIAL_TAKEN        0x8411 /* dl_load: a row that is not empty has the serial */
 #define DL_TABLE_FULL          0x8410 /* dl_load: no row is empty */
@@ -127,6 +130,9 @@ static inline const char *dl_code_text(uint16_t code)
     case DL_VOIDED: return "made void";
     case DL_QUERIED: return "queried";
     case DL_LOADED: return "loaded";
+    case DL_BAD_MESSAGE: return "bad message";
+    case DL_BAD_MAC: return "the message's MAC is wrong";
+    case DL_NO_SERVICE: return "no such service";
     case DL_BAD_ARGUMENT: return "bad argument";
     case DL_SERIAL_TAKEN: return "the serial is taken";
     case DL_TABLE_FULL: return "the table is full";
@@ -511,6 +517,76 @@ uint16_t dl_void(uint8_t *table, size_t table_len, uint64_t serial,
  */
 uint16_t dl_query(const uint8_t *table, size_t table_len, uint64_t serial,
                   uint64_t now, int64_t *values, size_t values_len);
+
+/*
+ * Serves a request that comes as a message of GM/T 0021-2012, Annex D: reads
+ * it and makes the call that it asks for. Answer, values and table are those of
+ * the call. There is no message for dl_load.
+ *
+ *   message    the bytes as they came, of any length; they are only read
+ *   now        the clock of whoever runs the reader: no message carries one
+ *   values     takes the step and the offset of a checked call, the state, the
+ *              errors and the last use of a query, nothing of another call;
+ *              values_len is DL_MOST_VALUES or more, whatever the message is
+ *
+ * A message is a header and a body, with nothing behind them. Their fields, in
+ * this order and each with the number of its bytes, are big-endian numbers;
+ * those below are hexadecimal, but for the header's length:
+ *
+ *   header     its own length (1), 21, or 25 with a MAC; type (1), 00 for a
+ *              request, 01 for a reply, 80 and 81 for the same with a MAC;
+ *              version (1), 01; caller (8) and call number (8), of any value;
+ *              length of the body (2); MAC (4), if the type has one
+ *   body       service (2); options (2); number of items (1); the items
+ *   item       attribute (1), 00; identifier (2); length of the content (1);
+ *              content
+ *
+ * Ten services have a call. Each needs its options and its items, every item
+ * once, in any order:
+ *
+ *   service                   options  items
+ *   0001  dl_login            0        0002 serial, 0003 password
+ *   0002  dl_challenge_login  0        0002 serial, 0006 challenge,
+ *                                      0007 response: the call's password
+ *   0101  dl_activate         0        0002 serial, 0003 password,
+ *                                      0004 following
+ *   0102  dl_lock             0        0002 serial
+ *   0103  dl_unlock           0        0002 serial, 0003 password
+ *   0104  dl_suspend          0        0002 serial
+ *   0105  dl_resume           0        0002 serial, 0003 password
+ *   0108  dl_sync             1 or 2:  0002 serial, 0003 password,
+ *                             choice   0004 following
+ *   010a  dl_void             0        0002 serial
+ *   010b  dl_query            0        0002 serial
+ *
+ * The serial has 8 bytes. How long the other contents are, and of what bytes,
+ * is for the call to judge.
+ *
+ * The MAC is the last four bytes of the SM3 hash of the header without the MAC
+ * and the body behind it. It has no key: it shows damage and not who sent the
+ * message. Anybody can make one, and can send again what he has seen. Whom to
+ * serve is for the caller to know before he hands the message over.
+ *
+ * Returns DL_BAD_ARGUMENT if values_len is too small. Next come these, in their
+ * order, before all that the call tests; they leave every byte as it was:
+ *
+ *   DL_BAD_MESSAGE  a type or version not named above, lengths that do not add
+ *                   up, a reply, an attribute other than 00 or, if the service
+ *                   has a call, options, items or a serial other than above
+ *   DL_BAD_MAC      a MAC that differs
+ *   DL_NO_SERVICE   a service without a call
+ *
+ * Else it returns what the call returns: DL_LOGGED_IN, DL_CHALLENGE_MET,
+ * DL_ACTIVATED, DL_LOCKED, DL_UNLOCKED, DL_SUSPENDED, DL_RESUMED,
+ * DL_SYNCHRONIZED, DL_VOIDED, DL_QUERIED, DL_BAD_ARGUMENT, DL_NO_TOKEN,
+ * DL_DAMAGED_ROW, DL_TOKEN_READY, DL_TOKEN_LOCKED, DL_TOKEN_SUSPENDED,
+ * DL_TOKEN_NOT_ACTIVATED, DL_TOKEN_VOID, DL_TOKEN_EXPIRED, DL_NEXT_WANTED,
+ * DL_MANAGEMENT_NEXT_WANTED, DL_USED, DL_WRONG, DL_MANAGEMENT_USED,
+ * DL_MANAGEMENT_WRONG or DL_SYNC_WRONG.
+ */
+uint16_t dl_serve_message(uint8_t *table, size_t table_len,
+                          const uint8_t *message, size_t message_len,
+                          uint64_t now, int64_t *values, size_t values_len);
 
 #ifdef __cplusplus
 }

@@ -141,6 +141,37 @@ impl Status {
     }
 }
 
+/// The success of a message, whichever call it asked for.
+#[derive(Clone, Copy, Debug, PartialEq, Eq, Hash)]
+pub enum Served {
+    /// Of a checked call: which one, and what the accepted password says.
+    Checked(Call, Accepted),
+    /// Of a query: what it reports.
+    Queried(Status),
+    /// Of lock, suspend or void: which one.
+    Plain(Call),
+}
+
+impl Served {
+    /// The call that the message asked for.
+    pub const fn call(&self) -> Call {
+        match *self {
+            Served::Checked(call, _) | Served::Plain(call) => call,
+            Served::Queried(_) => Call::Query,
+        }
+    }
+
+    /// The answer that a code of the library stands for, with its values. There is no message for a load.
+    pub(crate) fn answer(code: u16, values: Values) -> Answer<Served> {
+        match Call::ALL.iter().copied().find(|call| call.success() == code) {
+            Some(call @ (Call::Lock | Call::Suspend | Call::Void)) => Ok(Served::Plain(call)),
+            Some(Call::Query) => Ok(Served::Queried(Status::of(values))),
+            Some(Call::Load) | None => Err(Refusal::of(code)),
+            Some(call) => Ok(Served::Checked(call, Accepted::of(values))),
+        }
+    }
+}
+
 #[cfg(test)]
 mod tests {
     use super::*;
@@ -159,6 +190,29 @@ mod tests {
             let told = Status { state, errors: 255, last_use: Seconds((1 << 40) - 1) };
             assert_eq!(Status::of([number, 255, (1 << 40) - 1]), told);
         }
+    }
+
+    #[test]
+    fn messages_have_the_contents_of_their_calls() {
+        let accepted = Accepted { step: Step(35), offset: Offset(-1) };
+        let status = Status { state: State::Ready, errors: 4, last_use: Seconds(1060) };
+        for &call in Call::ALL {
+            let (values, served) = match call {
+                Call::Load => continue,
+                Call::Lock | Call::Suspend | Call::Void => ([0; 3], Served::Plain(call)),
+                Call::Query => ([2, 4, 1060], Served::Queried(status)),
+                _ => ([35, -1, 0], Served::Checked(call, accepted)),
+            };
+            assert_eq!(Served::answer(call.success(), values), Ok(served));
+            assert_eq!(served.call(), call);
+        }
+        assert_eq!(Served::answer(0x9002, [0; 3]), Err(Refusal::BadMac));
+    }
+
+    #[test]
+    #[should_panic(expected = "0140 is no code")]
+    fn no_message_loads() {
+        let _ = Served::answer(Call::Load.success(), [0; 3]);
     }
 
     #[test]

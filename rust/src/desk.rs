@@ -1,6 +1,6 @@
-//! The desk: eleven calls over a lent table of tokens.
+//! The desk: eleven calls over a lent table of tokens, ten of which a message may ask for.
 use crate::ffi::{self, Values};
-use crate::{Accepted, Algorithm, Answer, Call, Seconds, Serial, Status};
+use crate::{Accepted, Algorithm, Answer, Call, Seconds, Serial, Served, Status};
 
 /// The bytes of a token's row.
 pub const ROW_BYTES: usize = 96;
@@ -187,6 +187,53 @@ impl<'a> Desk<'a> {
         let mut values = Values::default();
         let code = ffi::query(self.table, serial.0, now.0, &mut values);
         Call::Query.answer(code).map(|()| Status::of(values))
+    }
+
+    /// Serves a request that comes as a message of GM/T 0021-2012, Annex D: makes the call that it asks for, with that call's answer
+    /// and table. The C header has the message's form, and the items of each service. The clock is that of whoever runs the reader,
+    /// since no message carries one.
+    ///
+    /// Before everything that the call may refuse, a message not made as a request is refused as
+    /// [`BadMessage`](crate::Refusal::BadMessage), one whose MAC differs as [`BadMac`](crate::Refusal::BadMac), and one for a service
+    /// without a call as [`NoService`](crate::Refusal::NoService). None of the three changes a byte.
+    ///
+    /// The MAC has no key: it shows damage and not who sent the message. Anybody can make one, and can send again what he has seen.
+    ///
+    /// ```
+    /// # use dykeladder::{Accepted, Algorithm, Call, Desk, Kind, Offset, Particulars, Refusal, Seconds, Serial, Served, Step, ROW_BYTES};
+    /// # let key = 103_142_u128.to_be_bytes();
+    /// # let token = Particulars {
+    /// #     serial: Serial(7),
+    /// #     kind: Kind::Time { period: 30 },
+    /// #     algorithm: Algorithm::Sm3,
+    /// #     digits: 6,
+    /// #     limit: 5,
+    /// #     key: &key,
+    /// #     wait: 60,
+    /// #     expiry: Seconds(1 << 40),
+    /// # };
+    /// # let mut table = [0; ROW_BYTES];
+    /// # let mut desk = Desk::new(&mut table);
+    /// # desk.load(&token)?;
+    /// # desk.activate(token.serial, Seconds(1020), "850816", "292064")?;
+    /// // A login of the token 7 with the password 123456: the header, the body, and its two items.
+    /// let message = [
+    ///     &b"\x15\x00\x01\0\0\0\0\0\0\0\x0012345678\x00\x1b"[..],
+    ///     b"\x00\x01\x00\x00\x02",
+    ///     b"\x00\x00\x02\x08\0\0\0\0\0\0\0\x07",
+    ///     b"\x00\x00\x03\x06123456",
+    /// ]
+    /// .concat();
+    /// let accepted = Accepted { step: Step(35), offset: Offset(0) };
+    /// assert_eq!(desk.serve(&message, Seconds(1060)), Ok(Served::Checked(Call::Login, accepted)));
+    /// assert_eq!(desk.serve(&message, Seconds(1060)), Err(Refusal::Used));
+    /// assert_eq!(desk.serve(&message[1..], Seconds(1060)), Err(Refusal::BadMessage));
+    /// # Ok::<(), Refusal>(())
+    /// ```
+    pub fn serve(&mut self, message: &[u8], now: Seconds) -> Answer<Served> {
+        let mut values = Values::default();
+        let code = ffi::serve_message(self.table, message, now.0, &mut values);
+        Served::answer(code, values)
     }
 
     fn plain(&mut self, call: Call, function: ffi::Plain, serial: Serial, now: Seconds) -> Answer<()> {

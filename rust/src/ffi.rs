@@ -83,6 +83,10 @@ extern "C" {
 
     fn dl_query(table: *const u8, table_len: usize, serial: u64, now: u64,
                 values: *mut i64, values_len: usize) -> u16;
+
+    fn dl_serve_message(table: *mut u8, table_len: usize,
+                        message: *const u8, message_len: usize,
+                        now: u64, values: *mut i64, values_len: usize) -> u16;
 }
 
 pub fn sm3(message: &[u8], digest: &mut [u8]) -> u16 {
@@ -221,4 +225,10 @@ pub fn sync(table: &mut [u8], serial: u64, now: u64, choice: u8, passwords: [&[u
 pub fn query(table: &[u8], serial: u64, now: u64, values: &mut Values) -> u16 {
     // SAFETY: both are slices, and only the `&mut` one is written.
     unsafe { dl_query(table.as_ptr(), table.len(), serial, now, values.as_mut_ptr(), values.len()) }
+}
+
+pub fn serve_message(table: &mut [u8], message: &[u8], now: u64, values: &mut Values) -> u16 {
+    let (table, table_len) = (table.as_mut_ptr(), table.len());
+    // SAFETY: all three are slices, and only the `&mut` ones are written.
+    unsafe { dl_serve_message(table, table_len, message.as_ptr(), message.len(), now, values.as_mut_ptr(), values.len()) }
 }

@@ -42,6 +42,8 @@
 //! assert_eq!(desk.query(token.serial, later)?.errors, 0);
 //! # Ok::<(), Refusal>(())
 //! ```
+//!
+//! A request may also come as a message of GM/T 0021-2012, Annex D: [`Desk::serve`] makes the call that it asks for.
 #![deny(missing_docs, unsafe_code)]
 
 mod answer;
@@ -55,7 +57,7 @@ mod password;
 mod refusal;
 mod units;
 
-pub use answer::{Accepted, Answer, Call, State, Status};
+pub use answer::{Accepted, Answer, Call, Served, State, Status};
 pub use check::{Checked, Track, Window};
 pub use cipher::{sm4, Sm4Keys};
 pub use desk::{Desk, Kind, Particulars, SyncWindow, MOST_ROWS, ROW_BYTES};

@@ -48,6 +48,12 @@ impl Error for BadArgument {}
 #[non_exhaustive]
 #[repr(u16)]
 pub enum Refusal {
+    /// [`Desk::serve`](crate::Desk::serve): the message is not made as a request is.
+    BadMessage = 0x9001,
+    /// The same: the MAC is not that of the message.
+    BadMac = 0x9002,
+    /// The same: the service has no call.
+    NoService = 0x9004,
     /// A length or a value is out of range.
     BadArgument = 0x9005,
     /// Load: a row that is not empty has the serial.
@@ -103,6 +109,9 @@ pub enum Refusal {
 impl Refusal {
     /// All refusals, in the order in which they are tested.
     pub const ALL: &'static [Refusal] = &[
+        Refusal::BadMessage,
+        Refusal::BadMac,
+        Refusal::NoService,
         Refusal::BadArgument,
         Refusal::SerialTaken,
         Refusal::TableFull,
@@ -138,15 +147,20 @@ impl Refusal {
         if code == success {
             return Ok(());
         }
-        match Refusal::from_code(code) {
-            Some(refusal) => Err(refusal),
-            None => panic!("{code:04x} is no code of this call"),
-        }
+        Err(Refusal::of(code))
+    }
+
+    /// The refusal of a code of the library that is no success of the call.
+    pub(crate) fn of(code: u16) -> Refusal {
+        Refusal::from_code(code).unwrap_or_else(|| panic!("{code:04x} is no code of this call"))
     }
 
     /// The refusal in a few words.
     pub const fn text(self) -> &'static str {
         match self {
+            Refusal::BadMessage => "bad message",
+            Refusal::BadMac => "the message's MAC is wrong",
+            Refusal::NoService => "no such service",
             Refusal::BadArgument => "bad argument",
             Refusal::SerialTaken => "the serial is taken",
             Refusal::TableFull => "the table is full",

@@ -35,6 +35,17 @@ fn sync(desk: &mut Desk<'_>, step: u64) -> Answer<()> {
     desk.sync(SERIAL, NOW, SyncWindow::Medium, shown(step), shown(step + 1)).map(drop)
 }
 
+// Of a service that there is not.
+fn of_messages() -> [Answer<()>; 3] {
+    let plain = *b"\x15\x00\x01\0\0\0\0\0\0\0\x0012345678\x00\x05\x99\x99\x00\x00\x00";
+    let marked = *b"\x19\x80\x01\0\0\0\0\0\0\0\x0012345678\x00\x05no!!\x99\x99\x00\x00\x00";
+    [
+        after_activation(|desk| desk.serve(&plain[1..], NOW).map(drop)),
+        after_activation(|desk| desk.serve(&marked, NOW).map(drop)),
+        after_activation(|desk| desk.serve(&plain, NOW).map(drop)),
+    ]
+}
+
 fn of_rows() -> [Answer<()>; 5] {
     [
         after_activation(|desk| desk.login(SERIAL, NOW, "12345x").map(drop)),
@@ -87,7 +98,8 @@ fn of_passwords() -> [Answer<()>; 5] {
 // In the order of Refusal::ALL.
 #[test]
 fn each_comes_up() {
-    let answers: Vec<_> = of_rows().into_iter().chain(of_states()).chain(of_equal_steps()).chain(of_passwords()).collect();
+    let of_tables = of_rows().into_iter().chain(of_states()).chain(of_equal_steps()).chain(of_passwords());
+    let answers: Vec<_> = of_messages().into_iter().chain(of_tables).collect();
     assert_eq!(answers, Refusal::ALL.iter().copied().map(Err).collect::<Vec<_>>());
 }
 

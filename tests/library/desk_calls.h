@@ -21,9 +21,9 @@ static inline uint8_t *table_row(size_t place)
     return table + place * DL_ROW_BYTES;
 }
 
-static inline size_t room_of(const struct desk_call *call)
+static inline size_t room_of(size_t table_len)
 {
-    return AROUND + call->table_len + AROUND;
+    return AROUND + table_len + AROUND;
 }
 
 // Zero rows amid random bytes.
@@ -137,9 +137,9 @@ static inline int same_answer(const struct desk_answer *one, const struct desk_a
 enum { NONE = -AROUND - 1 }; // before the room's first byte
 
 // Of the table and around it, the first byte that is not as it should be, counted from the table's start.
-static inline int first_wrong_byte(const struct desk_call *call)
+static inline int first_wrong_byte(size_t table_len)
 {
-    size_t n = room_of(call), i = 0;
+    size_t n = room_of(table_len), i = 0;
     if (memcmp(table_room, expected_room, n) == 0)
         return NONE;
     while (table_room[i] == expected_room[i])
@@ -152,7 +152,7 @@ static inline uint16_t expect(const struct desk_call *call, const struct desk_an
 {
     int kept;
     uint16_t code = make_call(call, &kept);
-    int byte = first_wrong_byte(call), values_right = wrote(answer->values, answer->values_set * sizeof *answer->values);
+    int byte = first_wrong_byte(call->table_len), values_right = wrote(answer->values, answer->values_set * sizeof *answer->values);
     check(code == answer->code && byte == NONE && values_right && kept,
           "call %d, serial %" PRIu64 ", now %" PRIu64 ", choice %d, lengths %zu %zu %zu %zu %zu %zu: %04x, not %04x; values %s; "
           "table %s %d; arguments %s", call->name, call->serial, call->now, call->choice, call->table_len, call->load.key_len,
@@ -163,10 +163,15 @@ static inline uint16_t expect(const struct desk_call *call, const struct desk_an
 }
 
 // The bytes of the table, as a call should leave them if it leaves them all.
+static inline uint8_t *expect_kept_bytes(size_t table_len)
+{
+    memcpy(expected_room, table_room, room_of(table_len));
+    return expected_room + AROUND;
+}
+
 static inline uint8_t *expect_kept_table(const struct desk_call *call)
 {
-    memcpy(expected_room, table_room, room_of(call));
-    return expected_room + AROUND;
+    return expect_kept_bytes(call->table_len);
 }
 
 static inline uint16_t compare(const struct desk_call *call)

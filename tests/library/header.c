@@ -4,10 +4,10 @@
 
 static const uint16_t codes[] = {
     DL_DONE, DL_LOGGED_IN, DL_CHALLENGE_MET, DL_ACTIVATED, DL_LOCKED, DL_UNLOCKED, DL_SUSPENDED, DL_RESUMED,
-    DL_SYNCHRONIZED, DL_VOIDED, DL_QUERIED, DL_LOADED, DL_BAD_ARGUMENT, DL_SERIAL_TAKEN, DL_TABLE_FULL, DL_NO_TOKEN,
-    DL_DAMAGED_ROW, DL_TOKEN_READY, DL_TOKEN_LOCKED, DL_TOKEN_SUSPENDED, DL_TOKEN_NOT_ACTIVATED, DL_TOKEN_VOID,
-    DL_TOKEN_EXPIRED, DL_NEXT_WANTED, DL_MANAGEMENT_NEXT_WANTED, DL_USED, DL_WRONG, DL_MANAGEMENT_USED, DL_MANAGEMENT_WRONG,
-    DL_SYNC_WRONG};
+    DL_SYNCHRONIZED, DL_VOIDED, DL_QUERIED, DL_LOADED, DL_BAD_MESSAGE, DL_BAD_MAC, DL_NO_SERVICE, DL_BAD_ARGUMENT,
+    DL_SERIAL_TAKEN, DL_TABLE_FULL, DL_NO_TOKEN, DL_DAMAGED_ROW, DL_TOKEN_READY, DL_TOKEN_LOCKED, DL_TOKEN_SUSPENDED,
+    DL_TOKEN_NOT_ACTIVATED, DL_TOKEN_VOID, DL_TOKEN_EXPIRED, DL_NEXT_WANTED, DL_MANAGEMENT_NEXT_WANTED, DL_USED, DL_WRONG,
+    DL_MANAGEMENT_USED, DL_MANAGEMENT_WRONG, DL_SYNC_WRONG};
 
 enum { CODES = sizeof codes / sizeof *codes, SUCCESSES = 12, ALL_NUMBERS = 0x10000 };
 
@@ -91,6 +91,10 @@ static void nothing_to_check(void)
     check(step == 77 && count == 10 && fresh == 0, "a wrong password, its step or counts");
 }
 
+// A query of serial 7 (GM/T 0021-2012, Annex D).
+static const uint8_t message[] = {21, 0, 1, 0, 0, 0, 0, 0, 0, 0, 0, 0, 0, 0, 0, 0, 0, 0, 1, 0, 17,
+                                  1, 0x0b, 0, 0, 1, 0, 0, 2, 8, 0, 0, 0, 0, 0, 0, 0, 7};
+
 static void no_table(void)
 {
     int64_t v[DL_MOST_VALUES];
@@ -105,6 +109,7 @@ static void no_table(void)
     REFUSED(dl_sync(NULL, 0, 7, 0, DL_SYNC_LARGE, digits, 6, digits, 6, v, DL_MOST_VALUES));
     REFUSED(dl_void(NULL, 0, 7, 0));
     REFUSED(dl_query(NULL, 0, 7, 0, v, DL_MOST_VALUES));
+    REFUSED(dl_serve_message(NULL, 0, message, sizeof message, 0, v, DL_MOST_VALUES));
 }
 
 static uint8_t table[DL_ROW_BYTES];
@@ -124,6 +129,14 @@ static void nothing_typed(void)
     REFUSED(dl_sync(table, sizeof table, 7, 0, DL_SYNC_LARGE, digits, 6, NULL, 0, v, DL_MOST_VALUES));
 }
 
+static void no_message(void)
+{
+    int64_t v[DL_MOST_VALUES];
+    ANSWERS(DL_NO_TOKEN, dl_serve_message(table, sizeof table, message, sizeof message, 0, v, DL_MOST_VALUES));
+    ANSWERS(DL_BAD_MESSAGE, dl_serve_message(table, sizeof table, NULL, 0, 0, v, DL_MOST_VALUES));
+    ANSWERS(DL_BAD_MESSAGE, dl_serve_message(NULL, 0, NULL, 0, 0, v, DL_MOST_VALUES));
+}
+
 static void no_room_for_values(void)
 {
     REFUSED(dl_login(table, sizeof table, 7, 0, digits, 6, NULL, 0));
@@ -133,6 +146,8 @@ static void no_room_for_values(void)
     REFUSED(dl_resume(table, sizeof table, 7, 0, digits, 6, NULL, 0));
     REFUSED(dl_sync(table, sizeof table, 7, 0, DL_SYNC_LARGE, digits, 6, digits, 6, NULL, 0));
     REFUSED(dl_query(table, sizeof table, 7, 0, NULL, 0));
+    REFUSED(dl_serve_message(table, sizeof table, message, sizeof message, 0, NULL, 0));
+    REFUSED(dl_serve_message(table, sizeof table, NULL, 0, 0, NULL, 0));
 }
 
 static const struct test tests[] = {
@@ -145,6 +160,7 @@ static const struct test tests[] = {
     {"null with length 0: the check", nothing_to_check, 0},
     {"null with length 0: the desk's table", no_table, 0},
     {"null with length 0: the desk's texts", nothing_typed, 0},
+    {"null with length 0: the desk's message", no_message, 0},
     {"null with length 0: the desk's values", no_room_for_values, 0},
 };
 

@@ -13,6 +13,8 @@ use Rattle.token.specs.Codes.{Signed, numberOf, valuesOf}
 use Rattle.desk.specs.declared.Particulars.{Particulars}
 use Rattle.desk.specs.Requests.{DeskCall}
 use Rattle.desk.specs.Desk.{Result, deskAfter}
+use Rattle.desk.specs.Reads.{readAfter}
+use Rattle.message.specs.Serving.{messageReads}
 use Rattle.capi.specs.Stored.{left}
 
 abbrev pub particularsOf : ℕ → ℕ → ℕ → ℕ → ℕ → ℕ → ℕ → ℕ → Particulars
@@ -60,9 +62,15 @@ abbrev pub resultLeft : Result → List ℕ → DeskLeft
 resultLeft r values = leftWith (numberOf (r .answer)) (r .table) (answerLeft (r .answer) values)
 
 -- fewer than three values are a bad argument
-unfoldable pub deskLeft : DeskCall → List ℕ → List ℕ → DeskLeft
-deskLeft call s values =
-    cond (leb mostValues (length values)) (resultLeft (deskAfter passwordAt call s) values) (leftWith badArgument s values)
+unfoldable pub returnedWith : List ℕ → List ℕ → Result → DeskLeft
+returnedWith s values r = cond (leb mostValues (length values)) (resultLeft r values) (leftWith badArgument s values)
+
+abbrev pub deskLeft : DeskCall → List ℕ → List ℕ → DeskLeft
+deskLeft call s values = returnedWith s values (deskAfter passwordAt call s)
+
+-- a message is answered as its call is, or refused
+abbrev pub messageLeft : List ℕ → ℕ → List ℕ → List ℕ → DeskLeft
+messageLeft message clock s values = returnedWith s values (readAfter passwordAt (messageReads message clock) s)
 
 -- a call whose success carries nothing has no values
 unfoldable pub plainLeft : DeskCall → List ℕ → Left

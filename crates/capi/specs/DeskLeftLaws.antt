@@ -14,9 +14,9 @@ use Rattle.token.specs.declared.answers.Content.{Content}
 use Rattle.token.specs.declared.answers.Answer.{Answer}
 use Rattle.token.specs.Codes.{signedOf, valuesOf, numberOf}
 use Rattle.desk.specs.Requests.{DeskCall}
-use Rattle.desk.specs.Desk.{result, deskAfter}
+use Rattle.desk.specs.Desk.{Result, result, deskAfter}
 use Rattle.capi.specs.Stored.{left}
-use Rattle.capi.specs.DeskLeft.{leftWith, word, contentLeft, answerLeft, deskLeft, plainLeft}
+use Rattle.capi.specs.DeskLeft.{leftWith, word, contentLeft, answerLeft, returnedWith, plainLeft}
 
 -- ---- an offset as a word
 
@@ -52,15 +52,16 @@ queried-written (x ∷ y ∷ z ∷ values) room status = refl
 
 -- ---- the desk's answer
 
-module _ (call : DeskCall) (s : List ℕ) {answer : Answer} {after : List ℕ} (made : result answer after ≡ deskAfter passwordAt call s) {code : ℕ} (numbered : code ≡ numberOf answer) where
-  pub left-plain : left code after ≡ plainLeft call s
-  unfolding plainLeft
-  left-plain = rw (numbered, ← made)
+pub left-plain : (call : DeskCall) (s : List ℕ) {answer : Answer} {after : List ℕ} → result answer after ≡ deskAfter passwordAt call s → {code : ℕ} → code ≡ numberOf answer → left code after ≡ plainLeft call s
+unfolding plainLeft
+left-plain call s made numbered = rw (numbered, ← made)
 
-  pub left-answered : (values : List ℕ) → 3 ≤ length values → {carried : List ℕ} → carried ≡ answerLeft answer values → leftWith code after carried ≡ deskLeft call s values
-  unfolding deskLeft
-  left-answered values room e = rw (le-leb 3 (length values) room, numbered, e, ← made)
+-- of a call or a message
+pub left-answered : (r : Result) (s : List ℕ) {answer : Answer} {after : List ℕ} → result answer after ≡ r → {code : ℕ} → code ≡ numberOf answer
+    → (values : List ℕ) → 3 ≤ length values → {carried : List ℕ} → carried ≡ answerLeft answer values → leftWith code after carried ≡ returnedWith s values r
+unfolding returnedWith
+left-answered r s made numbered values room e = rw (le-leb 3 (length values) room, numbered, e, ← made)
 
-pub left-short : (call : DeskCall) (s values : List ℕ) → length values < 3 → leftWith badArgument s values ≡ deskLeft call s values
-unfolding deskLeft
-left-short call s values l = rw (lt-leb 3 (length values) l)
+pub left-short : (r : Result) (s values : List ℕ) → length values < 3 → leftWith badArgument s values ≡ returnedWith s values r
+unfolding returnedWith
+left-short r s values l = rw (lt-leb 3 (length values) l)

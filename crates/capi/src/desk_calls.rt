@@ -1,4 +1,5 @@
 // The desk's calls. What a success carries goes to the front of values, as signed numbers in 64 bits.
+use crate::values::MOST_VALUES;
 use crate::values::put_answer;
 use desk::Particulars;
 use desk::activate;
@@ -20,8 +21,6 @@ ghost use mathlib.Core.Path.{_≡_};
 ghost use Rattle.desk.specs.Requests.{DeskCall, loginCall, challengeCall, activateCall, lockCall, unlockCall, suspendCall, resumeCall, syncCall, voidCall, queryCall};
 ghost use Rattle.capi.specs.Stored.{left};
 ghost use Rattle.capi.specs.DeskLeft.{particularsOf, leftWith, deskLeft, plainLeft};
-
-const MOST_VALUES: usize = 3;
 
 // The call `login`.
 #[no_mangle]

@@ -10,6 +10,8 @@ ghost use lib.ListN.{length};
 ghost use Rattle.token.specs.Codes.{signedOf, numberOf};
 ghost use Rattle.capi.specs.DeskLeft.{word, contentLeft, answerLeft};
 
+pub(crate) const MOST_VALUES: usize = 3;
+
 const LAST_WORD: u64 = 0xffff_ffff_ffff_ffff;
 
 // The signed offset d, in two's complement.

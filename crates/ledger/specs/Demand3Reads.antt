@@ -11,8 +11,9 @@ use Rattle.row.specs.Row.{rowBytes}
 use Rattle.token.specs.declared.answers.Answer.{Answer}
 use Rattle.token.specs.Codes.{numberOf}
 use Rattle.desk.specs.Desk.{run, checkedOf}
-use Rattle.desk.specs.Reads.{Reads, runReads, callsIn, withRefusals}
+use Rattle.desk.specs.Reads.{Reads}
 use Rattle.ledger.specs.Ledger.{names, ledger}
+use Rattle.ledger.specs.ReadRuns.{runReads, callsIn, withRefusals}
 use Rattle.ledger.specs.Demand3.{stepIn, Rising}
 
 -- on any table, what is read comes to the calls that are served, with the refusals of the others in their places

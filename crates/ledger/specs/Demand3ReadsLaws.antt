@@ -10,10 +10,11 @@ use Rattle.row.specs.Row.{rowBytes}
 use Rattle.token.specs.declared.answers.Answer.{Answer}
 use Rattle.desk.specs.Requests.{DeskCall}
 use Rattle.desk.specs.Desk.{Run, deskAfter, run, checkedOf}
-use Rattle.desk.specs.Reads.{Reads, readAfter, runReads, callsIn, inPlace, withRefusals}
+use Rattle.desk.specs.Reads.{Reads, readAfter}
 use Rattle.ledger.specs.Ledger.{names, ledger}
 use Rattle.ledger.specs.Demand3.{answersOf, acceptedSteps, AfterVoid}
 use Rattle.ledger.specs.Demand3Laws.{demand-3, steps-rise, void-accepts-nothing}
+use Rattle.ledger.specs.ReadRuns.{runReads, callsIn, inPlace, withRefusals}
 use Rattle.ledger.specs.Demand3Reads.{ReadsAreCalls, Demand3Reads, answersTo, stepsAccepted, ReadStepsRise, BehindVoid, ReadVoidAcceptsNothing}
 
 pub reads-are-calls : ReadsAreCalls

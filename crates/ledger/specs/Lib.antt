@@ -3,6 +3,7 @@ pub mod Ledger
 pub mod Demand3
 pub mod Demand3Laws
 -- what is read into calls
+pub mod ReadRuns
 pub mod Demand3Reads
 pub mod Demand3ReadsLaws
 -- the desk on tokens in place of bytes

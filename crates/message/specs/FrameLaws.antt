@@ -10,12 +10,13 @@ use lib.ListN.{length, getD}
 use Rattle.words.specs.Bytes.{AreBytes, beAt}
 use Rattle.words.specs.BytesLaws.{beAt-lt}
 use Rattle.words.specs.Lists.{oneOf}
-use Rattle.words.specs.BoolLaws.{by-test, and-left, and-right, clash, impossible}
+use Rattle.words.specs.BoolLaws.{by-test, and-left, and-right, clash}
 use Rattle.message.specs.declared.frame.Head.{Head}
 use Rattle.message.specs.declared.frame.Framed.{Framed}
-use Rattle.message.specs.Message.{kinds, marked, headLength, itemsEnd, kindIn, bodyStart, countIn, itemsStart, typeNamed, versionNamed, lengthsAddUp, attributesPlain, frameFits}
+use Rattle.message.specs.Message.{kinds, marked, headLength, itemsEnd, kindIn, bodyStart, countIn, itemsStart, typeNamed, frameFits}
 use Rattle.message.specs.Walking.{longest, headAt, framedAs, HeadOf, itemsFill}
 use Rattle.message.specs.WalkLaws.{end-behind}
+use Rattle.message.specs.FrameFacts.{Facts, fitting-facts, facts-fit}
 
 -- ---- tests in a row
 
@@ -42,59 +43,37 @@ head-long kind = by (marked kind)
     by true = (omega arith, omega arith)
     by false = (omega arith, omega arith)
 
-module _ (s : List ℕ) where
-  -- the tests of `frameFits`, one by one
-  pub record Frame : Type 0 where
-    pub named : typeNamed s ≡ true
-    pub version : versionNamed s ≡ true
-    pub head : eqb (getD s 0 0) (bodyStart s) ≡ true
-    pub body : eqb (bodyStart s + beAt 2 s 19) (length s) ≡ true
-    pub fill : itemsFill (countIn s) s (itemsStart s) ≡ true
+module _ (s : List ℕ) (t : frameFits s ≡ true) where
+  pub items-end : itemsEnd (countIn s) s (itemsStart s) ≡ length s
+  items-end = fitting-facts s t .end
 
-  pub frame-tests : frameFits s ≡ true → Frame
-  unfolding frameFits lengthsAddUp attributesPlain itemsFill
-  frame-tests t =
-      let named : typeNamed s ≡ true = search (and-left, and-right) depth 12 in
-      let version : versionNamed s ≡ true = search (and-left, and-right) depth 12 in
-      let head : eqb (getD s 0 0) (bodyStart s) ≡ true = search (and-left, and-right) depth 12 in
-      let body : eqb (bodyStart s + beAt 2 s 19) (length s) ≡ true = search (and-left, and-right) depth 12 in
-      let ends : eqb (itemsEnd (countIn s) s (itemsStart s)) (length s) ≡ true = search (and-left, and-right) depth 12 in
-      let plain : attributesPlain s ≡ true = search (and-left, and-right) depth 12 in
-      record { named = named; version = version; head = head; body = body; fill = rw ends plain }
-
-  pub tests-fit : Frame → frameFits s ≡ true
-  unfolding frameFits lengthsAddUp attributesPlain itemsFill
-  tests-fit f =
-      let ends = and-left (eqb (itemsEnd (countIn s) s (itemsStart s)) (length s)) _ (f .fill) in
-      let plain = and-right (eqb (itemsEnd (countIn s) s (itemsStart s)) (length s)) _ (f .fill) in
-      rw (f .named, f .version, f .head, f .body, ends) plain
-
-  pub items-end : frameFits s ≡ true → itemsEnd (countIn s) s (itemsStart s) ≡ length s
-  unfolding itemsFill
-  items-end t = eqb-true (itemsEnd (countIn s) s (itemsStart s)) (length s) (and-left _ _ (frame-tests t .fill))
-
-  pub fits-long : frameFits s ≡ true → (itemsStart s ≤ length s) × (26 ≤ length s)
-  fits-long t =
-      let e = items-end t in
+  pub fits-long : (itemsStart s ≤ length s) × (26 ≤ length s)
+  fits-long =
+      let e = items-end in
       let h = end-behind (countIn s) s (itemsStart s) in
       let l = head-long (kindIn s) .0 in
       (omega arith, omega arith)
 
-  pub fits-short : AreBytes s → frameFits s ≡ true → length s ≤ longest
-  fits-short h t =
-      let e = eqb-true (bodyStart s + beAt 2 s 19) (length s) (frame-tests t .body) in
+  pub fits-short : AreBytes s → length s ≤ longest
+  fits-short h =
+      let e = fitting-facts s t .sum in
       let b = beAt-lt 2 s 19 h in
       let l = head-long (kindIn s) .1 in
       omega arith
 
-  -- ---- what is returned
+  items-filled : itemsFill (countIn s) s (itemsStart s) ≡ true
+  unfolding itemsFill
+  items-filled = rw (eq-eqb (itemsEnd (countIn s) s (itemsStart s)) (length s) items-end) (fitting-facts s t .plain)
 
+-- ---- what is returned
+
+module _ (s : List ℕ) where
   pub frame-unfit : (frameFits s ≡ true → ⊥) → Framed.Malformed ≡ framedAs s
   unfolding framedAs
   frame-unfit d = by-test (frameFits s) (λ t. absurd (d t)) (λ f. rw f)
 
   pub frame-short : length s < 21 → Framed.Malformed ≡ framedAs s
-  frame-short l = frame-unfit (λ t. let h = fits-long t in omega arith)
+  frame-short l = frame-unfit (λ t. let h = fits-long s t in omega arith)
 
   module _ {body size : ℕ} {named : Bool} (bodied : body ≡ bodyStart s) (sized : size ≡ beAt 2 s 19) (names : named ≡ typeNamed s) where
     abbrev headTests : Bool
@@ -103,10 +82,12 @@ module _ (s : List ℕ) where
     pub head-unfit : not headTests ≡ true → Framed.Malformed ≡ framedAs s
     head-unfit n =
         frame-unfit
-        (λ t. let f = frame-tests t in
-        let whole = eqb-true (bodyStart s + beAt 2 s 19) (length s) (f .body) in
-        let long = fits-long t .0 in
-        let z : headTests ≡ true = rw (names, f .named, f .version, bodied, f .head, sized, f .body) (le-leb 5 (beAt 2 s 19) (omega arith)) in
+        (λ t. let f = fitting-facts s t in
+        let whole = f .sum in
+        let long = fits-long s t .0 in
+        let z : headTests ≡ true =
+        rw (names, f .named, eq-eqb (getD s 2 0) 1 (f .version), bodied, eq-eqb (getD s 0 0) (bodyStart s) (f .head), sized, eq-eqb (bodyStart s + beAt 2 s 19) (length s) (f .sum))
+        (le-leb 5 (beAt 2 s 19) (omega arith)) in
         clash z (not-true headTests n))
 
     module _ (t : not headTests ≡ false) where
@@ -122,26 +103,33 @@ module _ (s : List ℕ) where
           let l = leb-true 5 size long in
           (omega arith, e)
 
-      pub head-right : (typeNamed s ≡ true) × ((versionNamed s ≡ true) × ((eqb (getD s 0 0) (bodyStart s) ≡ true) × (eqb (bodyStart s + beAt 2 s 19) (length s) ≡ true)))
-      head-right =
+      filled-facts : itemsFill (countIn s) s (itemsStart s) ≡ true → Facts s
+      unfolding itemsFill
+      filled-facts fill =
           let all : headTests ≡ true = right in
           let named-right : named ≡ true = search (and-left, and-right) depth 12 in
           let version : eqb (getD s 2 0) 1 ≡ true = search (and-left, and-right) depth 12 in
           let head : eqb (getD s 0 0) body ≡ true = search (and-left, and-right) depth 12 in
-          let whole : eqb (body + size) (length s) ≡ true = search (and-left, and-right) depth 12 in
-          (sym names ∙ named-right, (version, (rw (← bodied) head, rw (← bodied, ← sized) whole)))
+          let whole = head-room .1 in
+          record {
+            named = sym names ∙ named-right;
+            version = eqb-true (getD s 2 0) 1 version;
+            head = eqb-true (getD s 0 0) body head ∙ bodied;
+            sum = rw (bodied, sized) at whole;
+            end = eqb-true (itemsEnd (countIn s) s (itemsStart s)) (length s) (and-left _ _ fill);
+            plain = and-right (eqb (itemsEnd (countIn s) s (itemsStart s)) (length s)) _ fill;
+          }
 
       module _ {count items : ℕ} {fill : Bool} (counted : count ≡ getD s (body + 4) 0) (first : items ≡ body + 5) (filled : fill ≡ itemsFill count s items) where
         pub items-unfit : not fill ≡ true → Framed.Malformed ≡ framedAs s
         items-unfit n =
             frame-unfit
-            (λ f. let e : itemsFill count s items ≡ true = rw (counted, first, bodied) (frame-tests f .fill) in clash e (sym filled ∙ not-true fill n))
+            (λ f. let e : itemsFill count s items ≡ true = rw (counted, first, bodied) (items-filled s f) in clash e (sym filled ∙ not-true fill n))
 
         pub frame-whole : {service options : ℕ} → not fill ≡ false → service ≡ beAt 2 s body → options ≡ beAt 2 s (body + 2)
             → Framed.Whole (record { kind = getD s 1 0; service = service; options = options; count = count; items = items }) ≡ framedAs s
         unfolding framedAs
         frame-whole n e o =
-            let r = head-right in
             let all : itemsFill (countIn s) s (itemsStart s) ≡ true = rw (counted, first, bodied) at (sym filled ∙ not-false fill n) in
-            let fits : frameFits s ≡ true = tests-fit (record { named = r .0; version = r .1 .0; head = r .1 .1 .0; body = r .1 .1 .1; fill = all }) in
+            let fits : frameFits s ≡ true = facts-fit s (filled-facts all) in
             rw (fits, e, o, counted, first, bodied)

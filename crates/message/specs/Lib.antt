@@ -2,11 +2,18 @@
 pub mod Message
 pub mod Serving
 pub mod Promise
-pub mod PromiseLaws
+pub mod MessageExamples
+-- how the code reads
 pub mod Walking
+pub mod FrameFacts
 pub mod WalkLaws
 pub mod OnlyLaws
 pub mod FrameLaws
 pub mod ItemLaws
 pub mod MacLaws
 pub mod ServingLaws
+-- what is promised
+pub mod ItemsReadLaws
+pub mod ReadLaws
+pub mod CodesLaws
+pub mod PromiseLaws

@@ -16,9 +16,10 @@ use Rattle.desk.specs.Requests.{DeskCall}
 use Rattle.desk.specs.Desk.{Result}
 use Rattle.desk.specs.Demand1.{codesOf, bytesFor}
 use Rattle.desk.specs.Demand2.{Exactly}
-use Rattle.desk.specs.Reads.{Reads, readAfter, runReads, callsIn, withRefusals}
+use Rattle.desk.specs.Reads.{Reads, readAfter}
 use Rattle.ledger.specs.Ledger.{ledger}
 use Rattle.ledger.specs.Demand3.{Rising}
+use Rattle.ledger.specs.ReadRuns.{runReads, callsIn, withRefusals}
 use Rattle.ledger.specs.Demand3Reads.{answersTo, stepsAccepted, BehindVoid}
 use Rattle.message.specs.Message.{Item, Message, kinds, marked, isReply, bodyBytes, macOf, bytesWith, kindIn, typeNamed, versionNamed, lengthsAddUp, attributesPlain, messageAt, frameOf, macFits}
 use Rattle.message.specs.Serving.{serviceOf, hasCall, optionsFit, itemsFit, serialFits, messageReads}

@@ -49,7 +49,7 @@ mac-fits-requires c κs =
     let head = c .before .before .before .before .before .head in
     let whole = whole-head _ (frame-of .ensures) (head .given .1) in
     let long = fits-long _ (whole .fits) in
-    (omega arith, fits-short _ (λ i. shared-slice-known .given i .fits) (whole .fits))
+    (omega arith, fits-short _ (whole .fits) (λ i. shared-slice-known .given i .fits))
 
 returns-3 : tie.Need-returns-3
 returns-3 c =
