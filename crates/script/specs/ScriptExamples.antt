@@ -5,11 +5,18 @@ use mathlib.Core.List.{List, [], _∷_, _++_, map}
 use mathlib.Core.Option.{none, some}
 use lib.ListN.{replicate}
 use Rattle.words.specs.Lists.{sameBytes}
-use Rattle.text.specs.Text.{digitValue, digitsFrom, decimalOf, longer, fieldsOf}
+use Rattle.words.specs.Bytes.{beAt}
+use Rattle.text.specs.Text.{digitValue, digitsFrom, decimalOf, longer, fieldsOf, hexOf, byteThen}
 use Rattle.lines.specs.Lines.{linesOf}
 use Rattle.window.specs.PasswordAt.{PasswordRule}
+use Rattle.row.specs.Table.{hasSerial, firstRow, findRow, located}
+use Rattle.desk.specs.Requests.{tableOk, requestOk}
+use Rattle.desk.specs.Desk.{servedAt, deskAfter}
 use Rattle.desk.specs.Reads.{readAfter}
-use Rattle.call_lines.specs.Line.{nameOf, fieldsRead, readsOf, codeText, valuesText, answerText, lineAfter}
+use Rattle.message.specs.Message.{itemsAt, itemsEnd, allPlain, lengthsAddUp, attributesPlain, messageAt, frameFits, frameOf, macFits}
+use Rattle.message.specs.Serving.{serviceOf, countOf, contentOf, onlyThese, misfits, callFor, messageReads}
+use Rattle.call_lines.specs.LineExamples.{headDigits, serialDigits, messageText}
+use Rattle.call_lines.specs.Line.{nameOf, fieldsRead, messageIn, messageLine, readsOf, codeText, valuesText, answerText, lineAfter}
 use Rattle.script.specs.Script.{hexText, rowsText, rowsOf, laterLine, served, servedAll, outputOf}
 
 -- rows,N
@@ -41,3 +48,12 @@ script-printed passwords = refl
 pub tableless-printed : (passwords : PasswordRule) → outputOf passwords (tableLine ++ (0x0a ∷ rowsLine (0x31 ∷ []))) ≡ 0x39 ∷ 0x30 ∷ 0x30 ∷ 0x35 ∷ 0x0a ∷ []
 unfolding outputOf linesOf longer servedAll served rowsOf sameBytes laterLine rowsText lineAfter readAfter readsOf nameOf fieldsRead fieldsOf answerText codeText valuesText
 tableless-printed passwords = refl
+
+-- rows,1, then messages at 60: a query of serial 7, no bytes, and one digit; the first is a call
+pub messages-printed : (passwords : PasswordRule)
+    → outputOf passwords (rowsLine (0x31 ∷ 0x0a ∷ (messageText (headDigits ++ (0x30 ∷ 0x31 ∷ 0x30 ∷ 0x62 ∷ (serialDigits (0x30 ∷ 0x37 ∷ [])))) ++ (0x0a ∷ (messageText [] ++ (0x0a ∷ messageText (0x30 ∷ [])))))))
+    ≡ 0x38 ∷ 0x34 ∷ 0x30 ∷ 0x32 ∷ 0x0a ∷ 0x39 ∷ 0x30 ∷ 0x30 ∷ 0x31 ∷ 0x0a ∷ 0x39 ∷ 0x30 ∷ 0x30 ∷ 0x35 ∷ 0x0a ∷ []
+unfolding outputOf linesOf longer servedAll served rowsOf sameBytes digitValue digitsFrom decimalOf laterLine lineAfter readAfter readsOf nameOf fieldsRead fieldsOf answerText codeText valuesText
+    messageIn messageLine hexOf byteThen messageReads frameOf frameFits lengthsAddUp attributesPlain messageAt itemsAt itemsEnd allPlain serviceOf countOf contentOf onlyThese misfits callFor macFits beAt
+    deskAfter tableOk requestOk servedAt located findRow firstRow hasSerial
+messages-printed passwords = refl
