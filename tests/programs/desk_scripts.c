@@ -1,8 +1,9 @@
-// A random script for the desk's line program and its answers by tests/library/desk_reference.h: desk_scripts SEED ROWS CALLS LINES ANSWERS,
-// the last two the files that are written. With a seed of 3k its tokens show one password at two steps, with one of 3k + 2 Sign is often pressed
-// twice. It prints how many double presses there are.
+// A random script for the desk's line program and its answers by tests/library/desk_reference.h and message_reference.h: desk_scripts SEED ROWS CALLS
+// LINES ANSWERS, the last two the files that are written. With a seed of 3k its tokens show one password at two steps, with one of 3k + 2 Sign is often
+// pressed twice. Some calls are messages, and some of these are damaged. It prints how many double presses there are.
 #define _DEFAULT_SOURCE
 #include "../library/collision_lists.h"
+#include "../library/message_damage.h"
 #include "../library/press_lists.h"
 
 static FILE *lines, *replies;
@@ -56,16 +57,16 @@ static void put_line(const struct desk_call *call)
     fprintf(lines, ",%" PRIu64 "\n", call->now);
 }
 
-// A password with a comma or a line feed in it cannot stand in a line, and a line has no lengths of its own.
+// A password with a comma or a line feed in it can stand in a message only.
 static int can_be_typed(const struct window_typed *typed)
 {
     return memchr(typed->bytes, ',', typed->len) == NULL && memchr(typed->bytes, '\n', typed->len) == NULL;
 }
 
+// A line has no lengths of its own.
 static int can_be_written(const struct desk_call *call, size_t rows)
 {
-    return call->table_len == rows * DL_ROW_BYTES && call->values_len >= DL_QUERY_VALUES && can_be_typed(&call->password)
-        && can_be_typed(&call->following);
+    return call->table_len == rows * DL_ROW_BYTES && call->values_len >= DL_QUERY_VALUES;
 }
 
 // ---- answers
@@ -87,6 +88,30 @@ static void put_table(size_t rows)
     }
 }
 
+// ---- messages
+
+enum { MOST_MESSAGE = 2000 }; // bytes that a line has room for, whatever the clock
+
+// Writes the message of a call, right or damaged, and gives the answer to it.
+static struct desk_answer put_message(const struct desk_call *call)
+{
+    struct made_message made;
+    struct message_bytes message;
+    make_message(&made, call, one_in(2) ? REQUEST : REQUEST_WITH_MAC);
+    if (one_in(3)) {
+        write_damaged(&message, &made);
+    } else {
+        order_items(&made, random_below(orders(made.items)));
+        write_message(&message, &made);
+    }
+    require(message.len <= MOST_MESSAGE, "a message that its line has room for");
+    struct message_sent sent = sent_bytes(&message, call);
+    fputs("message,", lines);
+    put_hex(lines, message.bytes, message.len);
+    fprintf(lines, ",%" PRIu64 "\n", call->now);
+    return message_answer_to(table, &sent);
+}
+
 // ---- lines that make no call
 
 static void put_other_line(size_t rows)
@@ -96,6 +121,7 @@ static void put_other_line(size_t rows)
         "sync,1,256,123456,123456,5", "void,18446744073709551616,5", "load,1,256,3,6,30,3,00112233445566778899aabbccddeeff,600,1900000000",
         "load,1,0,3,6,30,3,00112233445566778899aabbccddeef,600,1900000000", "load,1,0,3,6,30,3,0g112233445566778899aabbccddeeff,600,1900000000",
         "load,1,0,3,6,30,3,00112233445566778899aabbccddeeff,4294967296,1900000000", "challenge,1,3,123456,5", "rows,4", "table,", "query,1,5\r", "lock, 1,5",
+        "message,1,5", "message,15,05", "message,15", "message,15,5,", "message,1g,5",
     };
     if (one_in(4)) {
         fputs("table\n", lines);
@@ -132,6 +158,16 @@ static void next_line_call(struct desk_call *call)
         next_call(&list.base, call);
 }
 
+static struct desk_answer put_call(const struct desk_call *call)
+{
+    if (call->name != CALL_LOAD && (one_in(4) || !can_be_typed(&call->password) || !can_be_typed(&call->following)))
+        return put_message(call);
+    struct desk_answer answer = desk_answer_to(table, call);
+    presses += answer.code == DL_USED && desk_is_press(desk_find(table, call->table_len, call->serial), call);
+    put_line(call);
+    return answer;
+}
+
 static void put_calls(size_t rows, size_t calls)
 {
     struct desk_call call;
@@ -141,9 +177,7 @@ static void put_calls(size_t rows, size_t calls)
         do
             next_line_call(&call);
         while (!can_be_written(&call, rows));
-        struct desk_answer answer = desk_answer_to(table, &call);
-        presses += answer.code == DL_USED && desk_is_press(desk_find(table, call.table_len, call.serial), &call);
-        put_line(&call);
+        struct desk_answer answer = put_call(&call);
         put_answer(&answer);
     }
 }
