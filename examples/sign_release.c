@@ -80,6 +80,21 @@ static void sign_a_release(void)
     say("press Sign twice: refused, and no error", sign(code));
 }
 
+/* The operator's system may send the signature as a message of the standard's Annex D: header, body, and its two items. */
+static void sign_by_message(void)
+{
+    uint8_t message[] = "\x15\x00\x01" "\0\0\0\0\0\0\0\0" "12345678" "\x00\x1b" /* 27 bytes of body follow */
+                        "\x00\x01\x00\x00\x02"                            /* a login with two items: */
+                        "\x00\x00\x02\x08" "\0\0\0\0\0\0\x12\x67"        /* the serial, 4711 */
+                        "\x00\x00\x03\x06" "000000";                      /* the code, put there below */
+    size_t len = sizeof message - 1;
+    now += PERIOD;
+    struct code code = shown(now, "");
+    memcpy(message + len - DIGITS, code.digits, DIGITS);
+    say("send one byte less of the signed message", dl_serve_message(table, sizeof table, message, len - 1, now, values, DL_MOST_VALUES));
+    say("send all of it", dl_serve_message(table, sizeof table, message, len, now, values, DL_MOST_VALUES));
+}
+
 /* LIMIT errors without a success between them lock the token. */
 static void lock_by_errors(void)
 {
@@ -127,6 +142,7 @@ int main(void)
     printf("Dykeladder %s\n%-10s  %-45s %s\n", dl_version(), "clock", "what is done", "the desk's answer");
     hand_out_the_token();
     sign_a_release();
+    sign_by_message();
     lock_by_errors();
     sign_after_the_wait();
     sign_with_the_next_code();

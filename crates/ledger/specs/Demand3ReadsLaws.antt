@@ -1,17 +1,14 @@
 -- The proofs of the third demand for what is read into calls.
 use Prim.Native.Nat.{ℕ, _*_}
 use mathlib.Core.Path.{_≡_, refl, ap, _∙_}
-use mathlib.Core.Bool.{true, false, _&&_, cond}
-use mathlib.Core.List.{List, [], _∷_, _++_}
+use mathlib.Core.List.{List, [], _∷_}
 use lib.ListN.{replicate}
 use Rattle.words.specs.BoolLaws.{clash}
 use Rattle.window.specs.PasswordAt.{PasswordRule}
 use Rattle.row.specs.Row.{rowBytes}
 use Rattle.token.specs.declared.answers.Answer.{Answer}
-use Rattle.desk.specs.Requests.{DeskCall}
-use Rattle.desk.specs.Desk.{Run, deskAfter, run, checkedOf}
+use Rattle.desk.specs.Desk.{Run, deskAfter, run}
 use Rattle.desk.specs.Reads.{Reads, readAfter}
-use Rattle.ledger.specs.Ledger.{names, ledger}
 use Rattle.ledger.specs.Demand3.{answersOf, acceptedSteps, AfterVoid}
 use Rattle.ledger.specs.Demand3Laws.{demand-3, steps-rise, void-accepts-nothing}
 use Rattle.ledger.specs.ReadRuns.{runReads, callsIn, inPlace, withRefusals}

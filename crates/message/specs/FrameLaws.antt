@@ -9,12 +9,10 @@ use lib.Dec.{eqb, leb}
 use lib.ListN.{length, getD}
 use Rattle.words.specs.Bytes.{AreBytes, beAt}
 use Rattle.words.specs.BytesLaws.{beAt-lt}
-use Rattle.words.specs.Lists.{oneOf}
 use Rattle.words.specs.BoolLaws.{by-test, and-left, and-right, clash}
-use Rattle.message.specs.declared.frame.Head.{Head}
 use Rattle.message.specs.declared.frame.Framed.{Framed}
-use Rattle.message.specs.Message.{kinds, marked, headLength, itemsEnd, kindIn, bodyStart, countIn, itemsStart, typeNamed, frameFits}
-use Rattle.message.specs.Walking.{longest, headAt, framedAs, HeadOf, itemsFill}
+use Rattle.message.specs.Message.{marked, headLength, itemsEnd, kindIn, bodyStart, countIn, itemsStart, typeNamed, frameFits}
+use Rattle.message.specs.Walking.{longest, framedAs, itemsFill}
 use Rattle.message.specs.WalkLaws.{end-behind}
 use Rattle.message.specs.FrameFacts.{Facts, fitting-facts, facts-fit}
 

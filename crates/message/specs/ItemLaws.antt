@@ -1,19 +1,19 @@
 -- What each branch of finding and judging a message's items returns.
 use Prim.Native.Nat.{ℕ, _+_, _-_, _≤_, _<_}
-use mathlib.Core.Path.{_≡_, refl, sym, ap, _∙_}
+use mathlib.Core.Path.{_≡_, sym, ap, _∙_}
 use mathlib.Core.Bool.{Bool, true, false, _&&_}
 use mathlib.Core.List.{List, []}
 use native.Mathlib.Omega.{arith}
 use borrow.Author.Tests.{eq-eqb, ne-eqb, eqb-true}
-use lib.Dec.{eqb, ltb}
+use lib.Dec.{eqb}
 use lib.ListN.{length, take, drop}
 use Rattle.words.specs.Bytes.{beAt}
 use Rattle.words.specs.BoolLaws.{and-true, and-assoc}
 use Rattle.message.specs.declared.frame.Head.{Head}
 use Rattle.message.specs.declared.items.Part.{Part}
-use Rattle.message.specs.Message.{Item, itemEnd, itemsAt, itemsEnd, messageAt}
+use Rattle.message.specs.Message.{itemEnd, itemsAt, itemsEnd, messageAt}
 use Rattle.message.specs.Serving.{serialItem, countOf, contentOf, serialFits, serialOf}
-use Rattle.message.specs.Walking.{headAt, HeadOf, partOf, has, hasOnly}
+use Rattle.message.specs.Walking.{HeadOf, partOf, has, hasOnly}
 use Rattle.message.specs.WalkLaws.{length-itemsAt, left-end, item-within, part-next, part-absent, Found, part-found}
 use Rattle.message.specs.FrameLaws.{items-end}
 

@@ -2,7 +2,7 @@
 pub mod Message
 pub mod Serving
 pub mod Promise
-pub mod MessageExamples
+pub mod MessageTable
 -- how the code reads
 pub mod Walking
 pub mod FrameFacts

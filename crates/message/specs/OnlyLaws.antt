@@ -1,11 +1,11 @@
 -- Items each once: where there are as many items as identifiers, and each identifier is there, each is there once.
-use Prim.Native.Nat.{ℕ, zero, suc, _+_, _≤_, _<_}
-use mathlib.Core.Path.{_≡_, refl, sym, ap, _∙_}
-use mathlib.Core.Bool.{Bool, true, false, not, cond, _&&_}
+use Prim.Native.Nat.{ℕ, suc, _+_, _≤_}
+use mathlib.Core.Path.{_≡_, refl, sym}
+use mathlib.Core.Bool.{Bool, true, false, not, _&&_}
 use mathlib.Core.List.{List, [], _∷_}
 use native.Mathlib.Omega.{arith}
-use borrow.Author.Tests.{ne-eqb, eq-eqb, eqb-true, lt-ltb, ltb-true, ltb-false, not-true}
-use lib.Dec.{eqb, ltb}
+use borrow.Author.Tests.{eq-eqb, eqb-true, lt-ltb, ltb-true, not-true}
+use lib.Dec.{eqb}
 use lib.ListN.{length}
 use Rattle.words.specs.Lists.{oneOf}
 use Rattle.words.specs.BoolLaws.{by-test, and-left, and-right, or-left, or-right, and-true}

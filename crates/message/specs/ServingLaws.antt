@@ -1,13 +1,13 @@
 -- What each branch of serving a message returns.
 use Prim.Native.Nat.{ℕ, _<_}
-use mathlib.Core.Path.{_≡_, refl, sym, ap, _∙_}
-use mathlib.Core.Bool.{Bool, true, false, not, cond, _&&_, _||_}
-use mathlib.Core.List.{List, []}
+use mathlib.Core.Path.{_≡_, sym, ap, _∙_}
+use mathlib.Core.Bool.{Bool, true, false, not, _&&_, _||_}
+use mathlib.Core.List.{List}
 use native.Mathlib.Omega.{arith}
 use borrow.Author.Tests.{eqb-true, not-true, not-false}
 use lib.Dec.{eqb}
 use Rattle.words.specs.Lists.{oneOf}
-use Rattle.words.specs.BoolLaws.{by-test, and-left, and-right, and-assoc, or-left, or-right, impossible}
+use Rattle.words.specs.BoolLaws.{by-test, and-left, and-right, and-assoc, or-right, impossible}
 use Rattle.window.specs.PasswordAt.{PasswordRule}
 use Rattle.token.specs.declared.answers.Refusal.{Refusal}
 use Rattle.desk.specs.Requests.{DeskCall}
@@ -17,7 +17,7 @@ use Rattle.message.specs.declared.frame.Head.{Head}
 use Rattle.message.specs.declared.frame.Framed.{Framed}
 use Rattle.message.specs.declared.services.Service.{Service}
 use Rattle.message.specs.Message.{isReply, frameFits, frameOf, messageAt, macFits}
-use Rattle.message.specs.Serving.{serviceOf, optionsOf, hasCall, itemsOf, onlyThese, optionsFit, itemsFit, serialFits, misfits, callFor, messageReads, serialOf}
+use Rattle.message.specs.Serving.{serviceOf, optionsOf, hasCall, itemsOf, onlyThese, optionsFit, itemsFit, serialFits, misfits, callFor, messageReads}
 use Rattle.message.specs.Walking.{headAt, framedAs, HeadOf}
 
 -- ---- the head of a message

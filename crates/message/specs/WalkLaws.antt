@@ -1,16 +1,16 @@
 -- The walk over the items of a message, and an item by its identifier.
 use Prim.Native.Nat.{ℕ, zero, suc, _+_, _-_, _≤_, _<_}
-use mathlib.Core.Path.{_≡_, refl, sym, ap, _∙_}
-use mathlib.Core.Bool.{Bool, true, false, cond, _&&_}
-use mathlib.Core.List.{List, [], _∷_}
+use mathlib.Core.Path.{_≡_, refl, ap}
+use mathlib.Core.Bool.{true, false}
+use mathlib.Core.List.{List, []}
 use native.Mathlib.Omega.{arith}
 use borrow.Author.Tests.{ne-eqb, eq-eqb, lt-ltb}
-use lib.Dec.{eqb, ltb}
+use lib.Dec.{eqb}
 use lib.ListN.{length, getD, take, drop}
 use Rattle.words.specs.Bytes.{beAt}
 use Rattle.words.specs.BoolLaws.{by-test, and-true, and-false, impossible}
 use Rattle.message.specs.declared.items.Part.{Part}
-use Rattle.message.specs.Message.{Item, itemEnd, itemAt, itemsAt, itemsEnd, allPlain}
+use Rattle.message.specs.Message.{itemEnd, itemsAt, itemsEnd, allPlain}
 use Rattle.message.specs.Serving.{countOf, contentOf}
 use Rattle.message.specs.Walking.{itemsFill, partOf, has}
 

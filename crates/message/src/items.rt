@@ -9,11 +9,10 @@ use crate::services::Service;
 use words::bytes::be_at;
 use words::bytes::be_eight;
 ghost use mathlib.Core.Path.{_≡_};
-ghost use mathlib.Core.Bool.{true, _&&_};
-ghost use lib.Dec.{eqb, ltb};
-ghost use lib.ListN.{length};
+ghost use mathlib.Core.Bool.{true};
+ghost use lib.Dec.{ltb};
 ghost use Rattle.message.specs.Message.{messageAt};
-ghost use Rattle.message.specs.Serving.{serialItem, itemsOf, countOf, contentOf, onlyThese, serialOf, serialFits};
+ghost use Rattle.message.specs.Serving.{itemsOf, countOf, contentOf, onlyThese, serialOf, serialFits};
 ghost use Rattle.message.specs.Walking.{HeadOf, partOf, hasOnly};
 
 const SERIAL_BYTES: usize = 8;
