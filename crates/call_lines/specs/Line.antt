@@ -1,4 +1,4 @@
--- What a line of the program desk_lines means (its format: "Lines for the desk"): the call that it makes, and what is printed for it.
+-- What a line of the program desk_lines means (its format: "Lines for the desk"): the call or the message that is served, and what is printed for it.
 use Prim.Native.Nat.{ℕ, zero, suc, _+_, _-_, _/_, _%_, _^_}
 use mathlib.Core.Bool.{Bool, cond}
 use mathlib.Core.List.{List, [], _∷_, _++_}
@@ -147,7 +147,7 @@ callLine fields = fieldsRead (nameOf (fieldOf fields 0)) fields
 
 -- ---- messages
 
--- message
+-- the name of its line: message
 abbrev pub messageWord : List ℕ
 messageWord = 0x6d ∷ 0x65 ∷ 0x73 ∷ 0x73 ∷ 0x61 ∷ 0x67 ∷ 0x65 ∷ []
 

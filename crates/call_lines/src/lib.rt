@@ -1,4 +1,4 @@
-// What a line of the program desk_lines means: the call that it makes on a table, and the text that is printed for it.
+// What a line of the program desk_lines means: the call or the message that is served on a table, and the text that is printed for it.
 mod calls;
 mod fields;
 mod messages;
@@ -41,7 +41,7 @@ fn line_answer(table: &mut [u8], line: &[u8]) -> Answer
     call_line(table, line)
 }
 
-// Makes the call of a line on the table, and answers what is printed, without the line feed.
+// Serves a line on the table, and answers what is printed, without the line feed.
 pub fn serve_line(table: &mut [u8], line: &[u8]) -> Printed
     ensures { λ r. ⌜ left r (now (table .exit)) ≡ lineLeft passwordAt (now (line .entry)) (now (table .entry)) ⌝ }
     ensures { λ r. ⌜ r .len ≤ 40 ⌝ }
