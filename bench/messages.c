@@ -1,5 +1,5 @@
 // A login that comes as a message beside the call itself, and beside a program in C over OpenSSL that reads it and does the same (message_peer.h): prints
-// rows of the report's table, then what a message costs more than its call.
+// rows of the report's table, then what a message costs more than its call, and how much of that is the hash.
 #define _DEFAULT_SOURCE
 #include "desk_scenes.h"
 #include "message_peer.h"
@@ -64,10 +64,21 @@ static void ours_login(uint64_t number)
                         DL_MOST_VALUES));
 }
 
-enum { OURS, PEER, LOGIN, IN_A_RACE };
+// What no reader of a MAC can be without: the hash of as many bytes.
+static void ours_hash_and_login(uint64_t number)
+{
+    static uint8_t digest[DL_SM3_DIGEST_BYTES];
+    dl_sm3(message->bytes, message->len - MESSAGE_MAC, digest, sizeof digest);
+    ours_login(number);
+}
+
+enum { OURS, PEER, LOGIN, COMPARED, HASH_AND_LOGIN = COMPARED, IN_A_RACE };
 
 static const struct contestant contestants[IN_A_RACE] = {
-    [OURS] = {"dl_serve_message", ours, 0, 0}, [PEER] = {"C over OpenSSL EVP", openssl, 0, 0}, [LOGIN] = {"dl_login", ours_login, 0, 0}};
+    [OURS] = {"dl_serve_message", ours, 0, 0},
+    [PEER] = {"C over OpenSSL EVP", openssl, 0, 0},
+    [LOGIN] = {"dl_login", ours_login, 0, 0},
+    [HASH_AND_LOGIN] = {"dl_sm3, dl_login", ours_hash_and_login, 0, 0}};
 
 // ---- before the timing
 
@@ -110,7 +121,7 @@ static void take_outcome(struct outcome *outcome, uint16_t code)
 static void compare(uint16_t expected)
 {
     const struct desk_call *call = &scene->call;
-    struct outcome of[IN_A_RACE], by_reference;
+    struct outcome of[COMPARED], by_reference;
     memset(values, 0, sizeof values);
     take_outcome(&of[OURS], dl_serve_message(scene->table.bytes, message->table_len, message->bytes, message->len, message->now, values,
                                              DL_MOST_VALUES));
@@ -120,7 +131,7 @@ static void compare(uint16_t expected)
     struct desk_answer answer = message_answer_to(scene->table.bytes, message);
     memcpy(values, answer.values, sizeof values);
     take_outcome(&by_reference, answer.code);
-    for (size_t i = 0; i < IN_A_RACE; i++)
+    for (size_t i = 0; i < COMPARED; i++)
         if (of[i].code != expected || memcmp(&of[i], &by_reference, sizeof by_reference) != 0)
             die("a message's answer or table is not as it should be");
 }
@@ -142,6 +153,8 @@ static void set_up(void)
         message = &messages[i];
         races[i] = (struct race){.what = row->what, .rounds = ROUNDS, .calls = row->calls, .in_a_call = 1, .target = {[PEER] = row->target}};
         memcpy(races[i].contestants, contestants, sizeof contestants);
+        if (!row->with_mac)
+            races[i].contestants[HASH_AND_LOGIN].call = NULL;
         compare(row->is_read_alone ? DL_NO_TOKEN : DL_LOGGED_IN);
     }
 }
@@ -150,8 +163,10 @@ static void set_up(void)
 
 static void print_more(size_t at)
 {
-    double served = races[at].contestants[OURS].best, call = races[at].contestants[LOGIN].best, more = served - call;
-    printf("| %-28s | %8.0f | %12.0f | %8.0f | %7.0f | %-3s |\n", rows[at].what, served, call, more, rows[at].most,
+    const struct contestant *all = races[at].contestants;
+    double served = all[OURS].best, call = all[LOGIN].best, more = served - call;
+    double hash = rows[at].with_mac ? all[HASH_AND_LOGIN].best - call : 0;
+    printf("| %-28s | %8.0f | %12.0f | %8.0f | %15.0f | %7.0f | %-3s |\n", rows[at].what, served, call, more, hash, rows[at].most,
            more <= rows[at].most ? "yes" : "NO");
 }
 
@@ -165,8 +180,8 @@ int main(void)
     }
     for (size_t i = 0; i < ROWS; i++)
         print_race(&races[i]);
-    printf("\n| %-28s | %8s | %12s | %8s | %7s | %-3s |\n", "A message", "Ours, ns", "dl_login, ns", "More, ns", "At most", "Met");
-    puts("|---|--:|--:|--:|--:|---|");
+    printf("\n| %-28s | %8s | %12s | %8s | %15s | %7s | %-3s |\n", "A message", "Ours, ns", "dl_login, ns", "More, ns", "Of it dl_sm3, ns", "At most", "Met");
+    puts("|---|--:|--:|--:|--:|--:|---|");
     for (size_t i = 0; i < ROWS; i++)
         print_more(i);
     return 0;
