@@ -3,5 +3,6 @@ pub mod Rounds
 pub mod Sm3
 pub mod PaddingLaws
 pub mod Sm3Laws
+pub mod JoinedLaws
 pub mod Sm3Examples
 pub mod GreatLengths

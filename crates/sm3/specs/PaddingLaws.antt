@@ -6,14 +6,14 @@ use mathlib.Core.List.{List, _∷_, _++_, append-assoc}
 use native.Mathlib.Omega.{arith}
 use borrow.Author.Tests.{lt-ltb, le-ltb, ltb-true, ltb-false}
 use lib.Dec.{ltb}
-use lib.ListN.{length, set, take, drop, replicate, length-append, length-drop, length-replicate, replicate-append-replicate}
-use lib.Seq.{take-all, take-length, set-at, drop-append-le}
+use lib.ListN.{length, set, take, drop, replicate, length-append, length-replicate, replicate-append-replicate}
+use lib.Seq.{take-length, set-at, drop-append-le}
 use Rattle.words.specs.ListsLaws.{drop-zeros}
 use Rattle.words.specs.BoolLaws.{by-test}
 use Rattle.words.specs.Bytes.{beBytes, putBe}
-use Rattle.words.specs.BytesLaws.{putBe-seam}
+use Rattle.words.specs.BytesLaws.{length-beBytes, putBe-seam}
 use Rattle.sm3.specs.Sm3.{zerosAfter, padded}
-use Rattle.sm3.specs.Rounds.{lastBlocks}
+use Rattle.sm3.specs.Rounds.{lastBlocks, ended}
 
 pub last-blocks-one : (l : ℕ) → l % 64 < 56 → 1 ≡ lastBlocks l
 unfolding lastBlocks
@@ -55,27 +55,24 @@ end-filled src r z n x l e f =
     ∙ simp append-assoc)
 
 -- what stands after the whole blocks of the padded message
-padded-rest : (m : List ℕ) → drop (64 * (length m / 64)) (padded m)
-    ≡ drop (64 * (length m / 64)) m ++ (0x80 ∷ (replicate (zerosAfter (length m)) 0 ++ beBytes 8 (8 * length m)))
-unfolding padded
+pub padded-rest : (m : List ℕ) → drop (64 * (length m / 64)) (padded m) ≡ ended (drop (64 * (length m / 64)) m) (length m)
+unfolding padded ended
 padded-rest m = drop-append-le (64 * (length m / 64)) m (0x80 ∷ (replicate (zerosAfter (length m)) 0 ++ beBytes 8 (8 * length m))) (omega arith)
 
--- what the code does with its buffer: the rest of the message copied over zeros, the byte 80, the length
-pub end-of : (m : List ℕ) (blocks : ℕ) {copied end : List ℕ} → blocks ≡ lastBlocks (length m)
-    → (let rest = take (length m - length m / 64 * 64) (drop (length m / 64 * 64) m) in
-    copied ≡ take (length rest) rest ++ drop (length rest) (replicate 128 0))
-    → end ≡ putBe 8 (set copied (length m - length m / 64 * 64) 0x80) (64 * blocks - 8) (8 * length m)
-    → end ≡ drop (64 * (length m / 64)) (padded m) ++ replicate {A = ℕ} (128 - 64 * blocks) 0
-end-of m blocks {copied} {end} b p q =
-    let whole = length m / 64 * 64 in
-    let w : whole ≡ 64 * (length m / 64) = omega arith in
-    let r : length m - 64 * (length m / 64) ≡ length m % 64 = omega arith in
-    let l : length (drop (64 * (length m / 64)) m) ≡ length m % 64 = rw (length-drop (64 * (length m / 64)) m) r in
-    let rest : take (length m - whole) (drop whole m) ≡ drop (64 * (length m / 64)) m =
-    rw w (take-all (length m - 64 * (length m / 64)) (drop (64 * (length m / 64)) m) (rw (length-drop (64 * (length m / 64)) m) (omega arith))) in
-    let fill : length m % 64 + 9 + zerosAfter (length m) ≡ 64 * blocks = rw b (last-blocks-fill (length m)) in
-    let room : 64 * blocks ≤ 128 = rw b (last-blocks-fit (length m)) in
-    let copy : copied ≡ drop (64 * (length m / 64)) m ++ replicate (128 - length m % 64) 0 =
-    rw (p, rest, take-length (drop (64 * (length m / 64)) m), l, drop-zeros (length m % 64) 128) in
-    rw (q, copy, w, r, padded-rest m)
-    (end-filled (drop (64 * (length m / 64)) m) (length m % 64) (zerosAfter (length m)) (64 * blocks) (8 * length m) l fill room)
+-- what the code does with its buffer: the tail copied over zeros, the byte 80, the length
+pub end-of : (tail : List ℕ) (l blocks : ℕ) {copied end : List ℕ} → length tail ≡ l % 64 → blocks ≡ lastBlocks l
+    → copied ≡ take (length tail) tail ++ drop (length tail) (replicate 128 0)
+    → end ≡ putBe 8 (set copied (length tail) 0x80) (64 * blocks - 8) (8 * l)
+    → end ≡ ended tail l ++ replicate {A = ℕ} (128 - 64 * blocks) 0
+unfolding ended
+end-of tail l blocks {copied} e b p q =
+    let fill : length tail + 9 + zerosAfter l ≡ 64 * blocks = rw (e, b) (last-blocks-fill l) in
+    let room : 64 * blocks ≤ 128 = rw b (last-blocks-fit l) in
+    let copy : copied ≡ tail ++ replicate (128 - length tail) 0 = rw (p, take-length tail, drop-zeros (length tail) 128) in
+    rw (q, copy) (end-filled tail (length tail) (zerosAfter l) (64 * blocks) (8 * l) refl fill room)
+
+pub length-ended : (tail : List ℕ) (l : ℕ) → length tail ≡ l % 64 → length (ended tail l) ≡ 64 * lastBlocks l
+unfolding ended
+length-ended tail l e =
+    let fill : l % 64 + 9 + zerosAfter l ≡ 64 * lastBlocks l = last-blocks-fill l in
+    rw (length-append, length-append, length-replicate, length-beBytes) (omega arith)

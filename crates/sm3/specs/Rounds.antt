@@ -1,11 +1,12 @@
 -- How the code hashes: constants laid once, rounds by fours along with the expansion, and the last blocks. `Sm3Laws` and `PaddingLaws` show that this is the standard's.
-use Prim.Native.Nat.{ℕ, zero, suc, _+_, _/_, _%_, _^_}
+use Prim.Native.Nat.{ℕ, zero, suc, _+_, _*_, _/_, _%_, _^_}
 use mathlib.Core.Path.{_≡_}
-use mathlib.Core.List.{List, [], _∷_}
+use mathlib.Core.List.{List, [], _∷_, _++_}
 use lib.Dec.{ltb}
-use lib.ListN.{length, set}
+use lib.ListN.{length, set, drop, replicate}
+use Rattle.words.specs.Bytes.{beBytes}
 use Rattle.sm3.specs.declared.Registers.{Registers}
-use Rattle.sm3.specs.Sm3.{round, nextWord, iterated, padded, iv}
+use Rattle.sm3.specs.Sm3.{round, nextWord, iterated, zerosAfter, padded, iv, digest}
 use mathlib.Core.Bool.{cond}
 
 abbrev pub constants : List ℕ
@@ -50,3 +51,13 @@ wordTotal r = (r .a + r .b + r .c + r .d + r .e + r .f + r .g + r .h) % 2 ^ 32
 -- the blocks of a padded message of l bytes after its l / 64 whole ones
 unfoldable pub lastBlocks : ℕ → ℕ
 lastBlocks l = cond (ltb (l % 64) 56) 1 2
+
+-- tail with the padding of a message of l bytes
+unfoldable pub ended : List ℕ → ℕ → List ℕ
+ended tail l = tail ++ (0x80 ∷ (replicate (zerosAfter l) 0 ++ beBytes 8 (8 * l)))
+
+-- the digest of a message of l bytes, from the value after its first blocks and what follows those
+unfoldable pub digestFrom : Registers → List ℕ → ℕ → List ℕ
+digestFrom v rest l =
+    let whole = length rest / 64 in
+    digest (iterated (lastBlocks l) (ended (drop (64 * whole) rest) l) (iterated whole rest v))

@@ -7,8 +7,8 @@ use native.Mathlib.Numerals.{add-one, add-four}
 use native.Mathlib.Omega.{arith}
 use borrow.Author.Tests.{lt-ltb, le-ltb, ltb-true, ltb-false, eqb-true}
 use lib.Dec.{ltb, eqb}
-use lib.ListN.{length, getD, set, take, drop, replicate, length-set, length-append, length-drop, length-replicate, replicate-append-replicate, take-append-drop, List·getD-append}
-use lib.Seq.{getD-take, getD-drop, getD-set-other, take-all, length-take-le, take-suc-set, set-at, set-out}
+use lib.ListN.{length, getD, set, take, drop, replicate, length-set, length-append, length-take, length-drop, length-replicate, replicate-append-replicate, take-append-drop, List·getD-append}
+use lib.Seq.{drop-drop, getD-take, getD-drop, getD-set-other, take-all, length-take-le, take-suc-set, set-at, set-out}
 use Rattle.words.specs.BoolLaws.{by-test}
 use Rattle.words.specs.Entries.{entry-rule}
 use Rattle.words.specs.Bytes.{beAt, beBytes, putBe}
@@ -19,8 +19,8 @@ use Rattle.words.specs.WordsLaws.{rotated-pair, xor-assoc}
 use Rattle.sm3.specs.declared.Registers.{Registers}
 use Rattle.sm3.specs.declared.Hash.{Hash}
 use Rattle.sm3.specs.Sm3.{constant, parity, majority, choice, ff, gg, roundWith, round, rounds, nextWord, expand, compressed, wordsAt, xored, iterated, zerosAfter, padded, iv, digest, sm3Of, sm3Answer}
-use Rattle.sm3.specs.Rounds.{lastBlocks, constants, fourRounds, roundsFrom, grown, Reached, lastValue, wordTotal}
-use Rattle.sm3.specs.PaddingLaws.{last-blocks-fill}
+use Rattle.sm3.specs.Rounds.{lastBlocks, ended, digestFrom, constants, fourRounds, roundsFrom, grown, Reached, lastValue, wordTotal}
+use Rattle.sm3.specs.PaddingLaws.{last-blocks-fill, padded-rest, length-ended}
 
 -- ---- the constants: T of each round, rotated by the round's number
 
@@ -216,7 +216,7 @@ words-drop (suc n) s k at =
     )
 
 -- the first n blocks do not see what follows them
-iterated-append : (n : ℕ) (s t : List ℕ) (v : Registers) → 64 * n ≤ length s → iterated n (s ++ t) v ≡ iterated n s v
+pub iterated-append : (n : ℕ) (s t : List ℕ) (v : Registers) → 64 * n ≤ length s → iterated n (s ++ t) v ≡ iterated n s v
 unfolding iterated
 iterated-append zero s t v h = refl
 iterated-append (suc n) s t v h = rw (iterated-append n s t v (omega arith), words-append 16 s t (64 * n) (omega arith))
@@ -239,18 +239,49 @@ length-padded m =
     rw (length-append, length-append, length-replicate, length-beBytes) (omega arith)
 
 -- the message's whole blocks, then the last ones, give the hash
-pub sm3-of : (m rest : List ℕ) (blocks : ℕ) {end : List ℕ} {value last : Registers} → blocks ≡ lastBlocks (length m)
-    → end ≡ drop (64 * (length m / 64)) (padded m) ++ rest
-    → value ≡ iterated (length m / 64) m iv → last ≡ iterated blocks end value → digest last ≡ sm3Of m
+last-blocks-hash : (m : List ℕ)
+    → digest (iterated (lastBlocks (length m)) (ended (drop (64 * (length m / 64)) m) (length m)) (iterated (length m / 64) m iv)) ≡ sm3Of m
 unfolding sm3Of
-sm3-of m rest blocks {end} {value} {last} b e v l =
+last-blocks-hash m =
     let whole = length m / 64 in
-    let total : length (padded m) / 64 ≡ whole + blocks = rw (length-padded m, b) (omega arith) in
-    let first : value ≡ iterated whole (padded m) iv = v ∙ sym (iterated-padded whole m iv (omega arith)) in
-    let room : 64 * blocks ≤ length (drop (64 * whole) (padded m)) = rw (length-drop (64 * whole) (padded m), length-padded m, b) (omega arith) in
-    let all : last ≡ iterated (whole + blocks) (padded m) iv =
-    l ∙ rw (e, iterated-append blocks (drop (64 * whole) (padded m)) rest value room, first) (iterated-on blocks whole (padded m) iv) in
-    rw (all, total)
+    let blocks = lastBlocks (length m) in
+    let total : length (padded m) / 64 ≡ whole + blocks = rw (length-padded m) (omega arith) in
+    rw (← padded-rest m, ← iterated-padded whole m iv (omega arith), iterated-on blocks whole (padded m) iv, total)
+
+-- the first n blocks, the other whole ones, then the last ones
+pub digest-from-of : (m : List ℕ) (n : ℕ) → 64 * n ≤ length m → digestFrom (iterated n m iv) (drop (64 * n) m) (length m) ≡ sm3Of m
+unfolding digestFrom
+digest-from-of m n h =
+    let rest = drop (64 * n) m in
+    let k = length rest / 64 in
+    let whole : n + k ≡ length m / 64 = rw (length-drop (64 * n) m) (omega arith) in
+    let place : 64 * n + 64 * k ≡ 64 * (length m / 64) = omega arith in
+    let tail : drop (64 * k) rest ≡ drop (64 * (length m / 64)) m = drop-drop (64 * k) (64 * n) m ∙ rw place in
+    rw (tail, iterated-on k n m iv, whole) (last-blocks-hash m)
+
+pub whole-hash : (m : List ℕ) {v : Registers} {d : List ℕ} → v ≡ iv → d ≡ digestFrom v m (length m) → d ≡ sm3Of m
+unfolding iterated
+whole-hash m e f = f ∙ rw e (digest-from-of m 0 (omega arith))
+
+-- what follows the whole blocks has as many bytes as at the message's end
+pub tail-length : (rest : List ℕ) (l : ℕ) → length rest % 64 ≡ l % 64
+    → (let whole = length rest / 64 in length (take (length rest - 64 * whole) (drop (64 * whole) rest)) ≡ l % 64)
+tail-length rest l e = rw (length-take, length-drop) (omega arith)
+
+-- what the code does: the last blocks with zeros behind them, the whole blocks, then the last ones
+pub digest-from-is : (v : Registers) (rest : List ℕ) (l : ℕ) {blocks : ℕ} {end : List ℕ} {value last : Registers} → length rest % 64 ≡ l % 64 → blocks ≡ lastBlocks l
+    → (let whole = length rest / 64 in
+    end ≡ ended (take (length rest - 64 * whole) (drop (64 * whole) rest)) l ++ replicate {A = ℕ} (128 - 64 * blocks) 0)
+    → value ≡ iterated (length rest / 64) rest v → last ≡ iterated blocks end value → digest last ≡ digestFrom v rest l
+unfolding digestFrom
+digest-from-is v rest l {blocks} {end} {value} {last} same b e f g =
+    let whole = length rest / 64 in
+    let tail = drop (64 * whole) rest in
+    let size : length tail ≡ l % 64 = rw (length-drop (64 * whole) rest) (omega arith) in
+    let all : take (length rest - 64 * whole) tail ≡ tail = take-all (length rest - 64 * whole) tail (rw (length-drop (64 * whole) rest) (omega arith)) in
+    let room : 64 * blocks ≤ length (ended tail l) = rw (length-ended tail l size, b) (omega arith) in
+    let found : last ≡ iterated blocks (ended tail l) value = g ∙ rw (e, all) (iterated-append blocks (ended tail l) (replicate (128 - 64 * blocks) 0) value room) in
+    rw (found, f, b)
 
 -- a sum whose terms wrapped wraps to the same
 wrapped-sum : (x y : ℕ) {p q s : ℕ} → p ≡ x % 2 ^ 32 → q ≡ y % 2 ^ 32 → s ≡ (p + q) % 2 ^ 32 → s ≡ (x + y) % 2 ^ 32

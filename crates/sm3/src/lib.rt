@@ -1,6 +1,7 @@
 // The hash SM3 (GB/T 32905-2016).
 pub mod block;
 pub mod compress;
+pub mod joined;
 mod padding;
 pub mod round;
 pub mod sums;
@@ -11,7 +12,10 @@ use words::bytes::put_be;
 use words::codes::BAD_ARGUMENT;
 use words::codes::DONE;
 ghost use mathlib.Core.Path.{_≡_};
+ghost use Prim.Native.Nat.{_%_, _<_, _^_};
+ghost use lib.ListN.{length};
 ghost use Rattle.sm3.specs.Sm3.{iv, digest, sm3Answer};
+ghost use Rattle.sm3.specs.Rounds.{constants, digestFrom};
 
 // The eight registers A to H, also the value V that a block changes (5.3).
 pub struct Registers {
@@ -48,7 +52,7 @@ pub fn start() -> Registers
 }
 
 // The registers in bytes (5.4).
-fn digest(r: Registers) -> [u8; 32]
+pub(crate) fn digest(r: Registers) -> [u8; 32]
     ensures { λ s. ⌜ s ≡ digest r ⌝ }
 {
     let mut out = [0u8; 32];
@@ -63,6 +67,23 @@ fn digest(r: Registers) -> [u8; 32]
     out
 }
 
+// The digest of a message of len bytes, from the value after its first blocks and what follows those. The last blocks are put
+// before the others are hashed: stored and read at once they would be waited for.
+pub(crate) fn digest_from(v: Registers, rest: &[u8], len: usize, t: &[u32]) -> [u8; 32]
+    requires { ⌜ len < 2 ^ 32 ⌝ }
+    requires { ⌜ length (now rest) % 64 ≡ len % 64 ⌝ }
+    requires { ⌜ now t ≡ constants ⌝ }
+    ensures { λ r. ⌜ r ≡ digestFrom v (now (rest .entry)) len ⌝ }
+{
+    let whole = rest.len() / 64;
+    let blocks = padding::last_blocks(len);
+    let mut end = [0u8; 128];
+    padding::put_tail(&rest[64 * whole..], len, blocks, &mut end);
+    let value = iterate(v, rest, whole, t).value;
+    let last = iterate(value, &end, blocks, t).value;
+    digest(last)
+}
+
 // The digest of a message of 0 to 2^32 - 1 bytes; a longer one is refused (document 01, Part 1).
 pub fn sm3(message: &[u8]) -> Hash
     ensures { λ r. ⌜ r ≡ sm3Answer (now (message .entry)) ⌝ }
@@ -75,13 +96,8 @@ pub fn sm3(message: &[u8]) -> Hash
         };
     }
     let t = table::constants();
-    let blocks = padding::last_blocks(len);
-    let mut end = [0u8; 128];
-    padding::put_end(message, blocks, &mut end);
-    let value = iterate(start(), message, len / 64, &t).value;
-    let last = iterate(value, &end, blocks, &t).value;
     Hash {
         code: DONE,
-        digest: digest(last),
+        digest: digest_from(start(), message, len, &t),
     }
 }

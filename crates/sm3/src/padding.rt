@@ -3,10 +3,10 @@ use bytes::copy;
 use words::bytes::put_be;
 ghost use mathlib.Core.Path.{_≡_};
 ghost use mathlib.Core.List.{_++_};
-ghost use Prim.Native.Nat.{_+_, _*_, _-_, _/_, _<_, _^_};
+ghost use Prim.Native.Nat.{_+_, _*_, _-_, _/_, _%_, _<_, _^_};
 ghost use lib.ListN.{length, take, drop, replicate};
 ghost use Rattle.sm3.specs.Sm3.{padded};
-ghost use Rattle.sm3.specs.Rounds.{lastBlocks};
+ghost use Rattle.sm3.specs.Rounds.{lastBlocks, ended};
 
 // How many blocks follow the whole ones: two where the length has no room in one.
 pub(crate) fn last_blocks(len: usize) -> usize
@@ -15,18 +15,16 @@ pub(crate) fn last_blocks(len: usize) -> usize
     if len % 64 < 56 { 1 } else { 2 }
 }
 
-// Puts the last blocks into a buffer of zeros, which has room for two.
-pub(crate) fn put_end(message: &[u8], blocks: usize, out: &mut [u8])
-    requires { ⌜ length (now message) < 2 ^ 32 ⌝ }
-    requires { ⌜ blocks ≡ lastBlocks (length (now message)) ⌝ }
+// Puts the last blocks into a buffer of zeros, which has room for two. Of a message of len bytes tail follows the whole blocks.
+pub(crate) fn put_tail(tail: &[u8], len: usize, blocks: usize, out: &mut [u8])
+    requires { ⌜ len < 2 ^ 32 ⌝ }
+    requires { ⌜ length (now tail) ≡ len % 64 ⌝ }
+    requires { ⌜ blocks ≡ lastBlocks len ⌝ }
     requires { ⌜ now out ≡ replicate 128 0 ⌝ }
-    ensures { λ _. ⌜ now (out .exit) ≡ drop (64 * (length (now (message .entry)) / 64)) (padded (now (message .entry))) ++ replicate (128 - 64 * blocks) 0 ⌝ }
+    ensures { λ _. ⌜ now (out .exit) ≡ ended (now (tail .entry)) len ++ replicate (128 - 64 * blocks) 0 ⌝ }
 {
-    let len = message.len();
-    let whole = len / 64 * 64;
-    let rest = len - whole;
-    copy(&message[whole..], out);
-    out[rest] = 0x80;
+    copy(tail, out);
+    out[tail.len()] = 0x80;
     put_be(out, 64 * blocks - 8, 8, 8 * len as u64);
 }
 

@@ -12,8 +12,26 @@ is-marked-requires c κs = search needs
 returns : tie.Need-returns
 returns c = mac-unmarked _ (c .before .is-marked .ensures) (c .if1 .taken)
 
-digest-of-requires : tie.Need-digest-of-requires
-digest-of-requires c κs = search needs
+sub-joined-digest : tie.Need-sub-joined-digest
+sub-joined-digest c = search needs
+
+part-joined-digest-start : tie.Need-part-joined-digest-start
+part-joined-digest-start c = search needs
+
+part-joined-digest-end : tie.Need-part-joined-digest-end
+part-joined-digest-end c = search needs
+
+sub-joined-digest-2 : tie.Need-sub-joined-digest-2
+sub-joined-digest-2 c = search needs
+
+part-joined-digest-start-2 : tie.Need-part-joined-digest-start-2
+part-joined-digest-start-2 c = search needs
+
+part-joined-digest-end-2 : tie.Need-part-joined-digest-end-2
+part-joined-digest-end-2 c = search needs
+
+joined-digest-requires : tie.Need-joined-digest-requires
+joined-digest-requires c κs = search needs
 
 sub-same : tie.Need-sub-same
 sub-same c = search needs
@@ -38,11 +56,11 @@ same-requires c κs = search needs
 
 returns-2 : tie.Need-returns-2
 returns-2 c =
-    let is-marked = c .before .before .before .before .before .before .is-marked in
-    let if1 = c .before .before .before .before .before .if1 in
-    let digest-of = c .before .before .before .before .digest-of in
+    let is-marked = c .before .before .before .before .before .before .before .before .is-marked in
+    let if1 = c .before .before .before .before .before .before .before .if1 in
+    let joined-digest = c .before .before .before .before .joined-digest in
     let same = c .same in
-    mac-marked _ (is-marked .ensures) (if1 .left) (digest-of .ensures) (same .ensures)
+    mac-marked _ (is-marked .ensures) (if1 .left) (joined-digest .ensures) (same .ensures)
 
 pub mac-fits-spec : {M : Type 1} → statement M
 mac-fits-spec =
@@ -51,7 +69,13 @@ mac-fits-spec =
     shared-slice-read-is-marked
     is-marked-requires
     returns
-    digest-of-requires
+    sub-joined-digest
+    part-joined-digest-start
+    part-joined-digest-end
+    sub-joined-digest-2
+    part-joined-digest-start-2
+    part-joined-digest-end-2
+    joined-digest-requires
     sub-same
     part-same-start
     part-same-end

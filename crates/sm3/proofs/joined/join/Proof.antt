@@ -1,0 +1,40 @@
+use borrow.Author.Needs.{needs}
+use Rattle.sm3.specs.JoinedLaws.{join-of}
+use Rattle.sm3.proofs.joined.join.Statement.{statement}
+use Rattle.sm3.proofs.joined.join.Tie as tie
+
+copy-requires : tie.Need-copy-requires
+copy-requires c κs = search needs
+
+sub-copy : tie.Need-sub-copy
+sub-copy c = search needs
+
+part-copy-start : tie.Need-part-copy-start
+part-copy-start c = search needs
+
+part-copy-end : tie.Need-part-copy-end
+part-copy-end c = search needs
+
+copy-requires-2 : tie.Need-copy-requires-2
+copy-requires-2 c κs = search needs
+
+same-length : tie.Need-same-length
+same-length c = search needs
+
+returns : tie.Need-returns
+returns c =
+    let args = c .before .before .before .before .before .before .before .before .before .before .before .args in
+    let copy = c .before .before .before .before .before .before .copy in
+    join-of (args .head .now) (args .body .now) (args .out .now) (copy .kept .1 .0) (copy .ensures .1) (c .before .before .copy2 .ensures .1)
+
+pub join-spec : {M : Type 1} → statement M
+join-spec =
+    tie.close
+    (tie.spec
+    copy-requires
+    sub-copy
+    part-copy-start
+    part-copy-end
+    copy-requires-2
+    same-length
+    returns)
