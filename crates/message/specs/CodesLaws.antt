@@ -20,7 +20,7 @@ use Rattle.desk.specs.Reads.{Reads, readAfter}
 use Rattle.message.specs.declared.services.Service.{Service}
 use Rattle.message.specs.Message.{isReply, kindIn, typeNamed, versionNamed, lengthsAddUp, messageAt, frameFits, frameOf, macFits}
 use Rattle.message.specs.Serving.{serviceOf, hasCall, optionsFit, itemsFit, serialFits, misfits, callFor, messageReads}
-use Rattle.message.specs.Promise.{Malformed, MessageCodes, messageCodes, OthersAreCalls}
+use Rattle.message.specs.Promise.{Malformed, MessageCodes, readerCodes, OthersAreCalls}
 
 -- ---- what a message comes to, and why
 
@@ -120,7 +120,7 @@ none-in n (c ∷ codes) others none t =
     (λ same. rw (eqb-true n c same) (not-true (oneOf c others) (and-left _ _ none)))
     (λ other. none-in n codes others (and-right (not (oneOf c others)) _ none) (rw other at t))
 
-request-codes-apart : (request : Request) → noneIn (requestCodes request) messageCodes ≡ true
+request-codes-apart : (request : Request) → noneIn (requestCodes request) readerCodes ≡ true
 request-codes-apart (Request.login password) = refl
 request-codes-apart (Request.challengeLogin challenge password) = refl
 request-codes-apart (Request.activate password following) = refl
@@ -132,12 +132,12 @@ request-codes-apart (Request.sync choice password following) = refl
 request-codes-apart Request.void = refl
 request-codes-apart Request.query = refl
 
-call-codes-apart : (call : DeskCall) → noneIn (codesOf call) messageCodes ≡ true
+call-codes-apart : (call : DeskCall) → noneIn (codesOf call) readerCodes ≡ true
 call-codes-apart (DeskCall.load p key) = refl
 call-codes-apart (DeskCall.named request serial clock) = request-codes-apart request
 
-call-code : (passwords : PasswordRule) (call : DeskCall) (s : List ℕ) → oneOf (numberOf (deskAfter passwords call s .answer)) messageCodes ≡ false
-call-code passwords call s = none-in _ (codesOf call) messageCodes (call-codes-apart call) (demand-1 passwords call s .0)
+call-code : (passwords : PasswordRule) (call : DeskCall) (s : List ℕ) → oneOf (numberOf (deskAfter passwords call s .answer)) readerCodes ≡ false
+call-code passwords call s = none-in _ (codesOf call) readerCodes (call-codes-apart call) (demand-1 passwords call s .0)
 
 -- ---- the code tells which
 
@@ -145,7 +145,7 @@ module _ (passwords : PasswordRule) (message s : List ℕ) where
   abbrev code : Reads → ℕ
   code r = numberOf (readAfter passwords r s .answer)
 
-  call-not : (call : DeskCall) {c : ℕ} → oneOf c messageCodes ≡ true → numberOf (deskAfter passwords call s .answer) ≡ c → ⊥
+  call-not : (call : DeskCall) {c : ℕ} → oneOf c readerCodes ≡ true → numberOf (deskAfter passwords call s .answer) ≡ c → ⊥
   call-not call t e = clash t (rw (← e) (call-code passwords call s))
 
   why-9001 : (r : Reads) → Why message r → Exactly (code r ≡ 0x9001) (Malformed message)
@@ -169,7 +169,7 @@ module _ (passwords : PasswordRule) (message s : List ℕ) where
   why-9004 r (Why.noCall ok t f) = (λ e. (ok, (t, f)), λ x. refl)
   why-9004 r (Why.called ok t has call) = (λ e. absurd (call-not call refl e), λ x. clash has (x .1 .1))
 
-  why-other : (r : Reads) → Why message r → Exactly (oneOf (code r) messageCodes ≡ false) ((call : DeskCall) × (r ≡ Reads.serves call))
+  why-other : (r : Reads) → Why message r → Exactly (oneOf (code r) readerCodes ≡ false) ((call : DeskCall) × (r ≡ Reads.serves call))
   unfolding readAfter
   why-other r (Why.malformed bad) = (λ f. clash refl f, λ x. let e = x .1 in impossible (cc))
   why-other r (Why.macOther ok t) = (λ f. clash refl f, λ x. let e = x .1 in impossible (cc))

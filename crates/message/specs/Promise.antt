@@ -78,20 +78,21 @@ MessageCodes =
     × (Exactly (codeTo passwords message clock s ≡ 0x9002) ((Malformed message → ⊥) × (macFits message ≡ false))
     × Exactly (codeTo passwords message clock s ≡ 0x9004) ((Malformed message → ⊥) × ((macFits message ≡ true) × (hasCall (serviceOf (messageAt message .service)) ≡ false))))
 
-abbrev pub messageCodes : List ℕ
-messageCodes = 0x9001 ∷ 0x9002 ∷ 0x9004 ∷ []
+-- the codes of the reader alone
+abbrev pub readerCodes : List ℕ
+readerCodes = 0x9001 ∷ 0x9002 ∷ 0x9004 ∷ []
 
 -- none of the three: the ledger machine sees a call
 abbrev pub OthersAreCalls : Type 0
 OthersAreCalls =
     (passwords : PasswordRule) (message : List ℕ) (clock : ℕ) (s : List ℕ)
-    → Exactly (oneOf (codeTo passwords message clock s) messageCodes ≡ false) ((call : DeskCall) × (messageReads message clock ≡ Reads.serves call))
+    → Exactly (oneOf (codeTo passwords message clock s) readerCodes ≡ false) ((call : DeskCall) × (messageReads message clock ≡ Reads.serves call))
 
 -- ---- the first demand for messages
 
 abbrev pub codesFor : Reads → List ℕ
 codesFor (Reads.serves call) = codesOf call
-codesFor (Reads.refuses refusal) = messageCodes
+codesFor (Reads.refuses refusal) = readerCodes
 
 -- the bytes named for the call's answer; a refused message changes none
 abbrev pub bytesAfter : PasswordRule → Reads → List ℕ → Answer → List ℕ
