@@ -1,5 +1,5 @@
 // The reader of document 02, request 1: from the bytes of a message of GM/T 0021-2012, Annex D, to a call of desk_reference.h or a refusal. It is
-// written from the annex and the request, and not from the definitions of the proofs, over OpenSSL's SM3.
+// written from the annex and the request, over OpenSSL's SM3, and takes the fields from the front.
 #ifndef MESSAGE_REFERENCE_H
 #define MESSAGE_REFERENCE_H
 
