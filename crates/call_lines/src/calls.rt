@@ -18,7 +18,7 @@ use token::{Answer, Refusal};
 use window::{Scheme, Seconds};
 
 // The particulars of a load, where they were right.
-#[derive(Drop)]
+#[derive(Clone, Copy)]
 pub struct LoadRead {
     pub ok: bool,
     pub particulars: Particulars,

@@ -22,7 +22,7 @@ use words::bytes::same;
 const LONGEST: usize = 4096;
 
 // What is printed for a line: the first `len` bytes; zeros stand behind them.
-#[derive(Drop)]
+#[derive(Clone, Copy)]
 pub struct Printed {
     pub len: usize,
     pub bytes: [u8; 40],

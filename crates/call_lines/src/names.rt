@@ -4,7 +4,7 @@ ghost use Rattle.call_lines.specs.Line.{is_named, name_of, count_of};
 
 use words::bytes::same;
 
-#[derive(Drop)]
+#[derive(Clone, Copy)]
 pub enum Name {
     Load,
     Login,

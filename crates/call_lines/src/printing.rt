@@ -6,13 +6,13 @@ ghost use Rattle.call_lines.specs.Line.{code_text, decimal_text, signed_text, va
 ghost use Rattle.call_lines.specs.Puts.{Puts};
 
 use crate::Printed;
-use bytes::copy;
+use words::bytes::copy;
 use text::hex_digit;
 use token::{Answer, Content, number_of};
 use window::{FARTHEST, Offset};
 
 // The digits of a number: the bytes from start on.
-#[derive(Drop)]
+#[derive(Clone, Copy)]
 pub struct Digits {
     pub start: usize,
     pub bytes: [u8; 20],

@@ -13,14 +13,14 @@ pub(crate) const LARGEST_WORD: u64 = 0xffff_ffff;
 pub(crate) const LARGEST: u64 = 0xffff_ffff_ffff_ffff;
 
 // A number, where it was right.
-#[derive(Drop)]
+#[derive(Clone, Copy)]
 pub struct Value {
     pub ok: bool,
     pub value: u64,
 }
 
 // The same of a byte.
-#[derive(Drop)]
+#[derive(Clone, Copy)]
 pub struct Byte {
     pub ok: bool,
     pub value: u8,

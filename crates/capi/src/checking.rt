@@ -28,7 +28,7 @@ fn size_of(number: u8) -> Size
 }
 
 // What is asked of the window, where the passwords are in range.
-#[derive(Drop)]
+#[derive(Clone, Copy)]
 pub enum Presented {
     Is(Asked),
     Bad,

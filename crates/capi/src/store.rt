@@ -3,7 +3,7 @@ ghost use Rattle.std.specs.Prelude.{◌≡◌};
 ghost use Rattle.words.specs.Output.{stored};
 ghost use Rattle.capi.specs.Stored.{left};
 
-use bytes::copy;
+use words::bytes::copy;
 use words::codes::{BAD_ARGUMENT, DONE};
 use words::word::copy_words;
 

@@ -11,7 +11,7 @@ pub use serving::{query, serve};
 use window::{Scheme, Seconds};
 
 // What a load sets of a token, besides its key.
-#[derive(Drop)]
+#[derive(Clone, Copy)]
 pub struct Particulars {
     pub serial: u64,
     pub scheme: Scheme,

@@ -16,7 +16,7 @@ use script::serving::Stage;
 const NAME: usize = PATH_MAX + 7;
 
 // Whether the file was read, and the rows of its table: none of a file that has no right length.
-#[derive(Drop)]
+#[derive(Clone, Copy)]
 pub(crate) struct Loaded {
     pub(crate) ok: bool,
     pub(crate) rows: usize,
@@ -49,7 +49,7 @@ fn load(path: &[u8], table: &mut [u8]) -> Loaded
 }
 
 // A new file that is open for reading and writing, or -1, and how many bytes its name has.
-#[derive(Drop)]
+#[derive(Clone, Copy)]
 pub(crate) struct Made {
     pub(crate) fd: i32,
     pub(crate) n: usize,

@@ -13,7 +13,7 @@ use script::stream::{fill, finish};
 const PIECE: usize = 65536;
 
 // Whether the read and the writes went well, how many bytes were read, how many of them are served, the pending line's length, and the stage.
-#[derive(Drop)]
+#[derive(Clone, Copy)]
 pub(crate) struct Progress {
     pub(crate) ok: bool,
     pub(crate) read: usize,
@@ -142,7 +142,7 @@ fn serve_pieces(
 }
 
 // Whether all was read and all that was printed is written out, and the stage.
-#[derive(Drop)]
+#[derive(Clone, Copy)]
 pub(crate) struct Done {
     pub(crate) ok: bool,
     pub(crate) fresh: bool,

@@ -2,7 +2,7 @@
 use Rattle.std.specs.Prelude.{ℕ, suc, ◌+◌, ◌<◌, ◌≡◌, refl, false, List, [], ◌∷◌, ◌++◌, eqb, length, take}
 use Rattle.std.proofs.Common.{append_assoc, append-nil, arith}
 use Rattle.words.specs.BoolLaws.{by-test}
-use Rattle.bytes.specs.Bytes.{index_of, index_after}
+use Rattle.words.specs.Search.{index_of, index_after}
 use Rattle.text.specs.Text.{longer}
 use Rattle.lines.specs.Lines.{line_feed, lines_of, behind, cut, last}
 

@@ -2,7 +2,7 @@
 ghost use Rattle.std.specs.Prelude.{List, ◌++◌, ℕ, ◌+◌, ◌≤◌, length};
 ghost use Rattle.lines.specs.Lines.{Held, Put};
 
-use bytes::copy;
+use words::bytes::copy;
 
 pub const LINE_FEED: u8 = 0x0a;
 

@@ -26,7 +26,7 @@ pub(crate) const EMPTY_BODY: usize = 5;
 const FIRST_MARKED: u8 = 0x80;
 
 // What is read of a message; `items` is the place of the first one.
-#[derive(Drop)]
+#[derive(Clone, Copy)]
 pub struct Head {
     pub kind: u8,
     pub service: u64,
@@ -35,7 +35,7 @@ pub struct Head {
     pub items: usize,
 }
 
-#[derive(Drop)]
+#[derive(Clone, Copy)]
 pub enum Framed {
     Whole(Head),
     Malformed,

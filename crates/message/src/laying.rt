@@ -13,7 +13,7 @@ use crate::frame::{
     is_marked,
 };
 use crate::reading::Heading;
-use bytes::copy;
+use words::bytes::copy;
 use sm3::joined::last_word;
 use words::bytes::put_be;
 

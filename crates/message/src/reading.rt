@@ -9,7 +9,7 @@ use token::Refusal;
 use words::bytes::{be_at, be_eight};
 
 // What a message says beside its items. Type, service and options are wider than their fields, so that the writer can refuse a value too large.
-#[derive(Drop)]
+#[derive(Clone, Copy)]
 pub struct Heading {
     pub kind: u32,
     pub caller: u64,
@@ -19,28 +19,28 @@ pub struct Heading {
 }
 
 // With the number of its items.
-#[derive(Drop)]
+#[derive(Clone, Copy)]
 pub enum Reading {
     Read(Heading, usize),
     Refused(Refusal),
 }
 
 // An item's identifier, and where in the message its content starts and ends.
-#[derive(Drop)]
+#[derive(Clone, Copy)]
 pub struct ItemPlace {
     pub identifier: u32,
     pub start: usize,
     pub end: usize,
 }
 
-#[derive(Drop)]
+#[derive(Clone, Copy)]
 pub enum ItemRead {
     Is(ItemPlace),
     Nothing,
     Refused(Refusal),
 }
 
-#[derive(Drop)]
+#[derive(Clone, Copy)]
 pub enum HeadRead {
     Is(Head),
     Refused(Refusal),

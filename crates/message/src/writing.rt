@@ -21,7 +21,7 @@ const MOST: u32 = 0xffff;
 const ITEM_HEAD: usize = 4;
 
 // The code, and the message's length where it was written.
-#[derive(Drop)]
+#[derive(Clone, Copy)]
 pub struct Written {
     pub code: u16,
     pub len: usize,

@@ -12,7 +12,7 @@ use words::bytes::{be_at, be_eight};
 const SERIAL_BYTES: usize = 8;
 
 // Where an item's content starts and ends.
-#[derive(Drop)]
+#[derive(Clone, Copy)]
 pub enum Part {
     From(usize, usize),
     Nothing,

@@ -4,7 +4,7 @@ ghost use Rattle.words.specs.Lists.{one_of};
 ghost use Rattle.message_calls.specs.Serving.{service_of, options_of, has_call};
 
 // Those that have a call, or another.
-#[derive(Drop)]
+#[derive(Clone, Copy)]
 pub enum Service {
     Login,
     ChallengeLogin,

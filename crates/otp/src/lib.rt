@@ -25,7 +25,7 @@ pub const SM3: u8 = 3;
 pub const SM4: u8 = 4;
 
 // A factor of the password, the time T or the event count C (GM/T 0021, 6.1): present with its number, or absent.
-#[derive(Drop)]
+#[derive(Clone, Copy)]
 pub enum Factor {
     Absent,
     Present(u64),

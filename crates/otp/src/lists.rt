@@ -12,7 +12,7 @@ use sm4::round_keys;
 use words::word::copy_words;
 
 // How a token's steps are cut: by which algorithm, and whether a step is a time T or a count C.
-#[derive(Drop)]
+#[derive(Clone, Copy)]
 pub struct Maker {
     pub algorithm: u8,
     pub timed: bool,

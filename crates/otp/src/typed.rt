@@ -6,14 +6,14 @@ use crate::number::number_shown;
 use words::bytes::within;
 
 // A count of decimal digits, and the number that they show.
-#[derive(Drop)]
+#[derive(Clone, Copy)]
 pub struct Password {
     pub digits: u8,
     pub number: u64,
 }
 
 // What was typed: a password, or bytes that are none.
-#[derive(Drop)]
+#[derive(Clone, Copy)]
 pub enum Typed {
     Is(Password),
     Bad,

@@ -6,7 +6,7 @@ use mathlib.Core.List.{List, [], ◌∷◌, ◌++◌, flatten, append_assoc, app
 use Rattle.std.proofs.Math.ListN.{take}
 use Rattle.std.proofs.lemmas.List.{length-replicate}
 use Rattle.std.proofs.Math.Seq.{take-append-add, take-append_seam, take-length}
-use Rattle.bytes.specs.Bytes.{index_of, slice}
+use Rattle.words.specs.Search.{index_of, slice}
 use Rattle.password_lines.specs.Line.{line_answer, refusal, printed_of}
 use Rattle.password_lines.specs.declared.Printed.{Printed}
 use Rattle.password_lines.specs.LineLaws.{long-line, answer-length}

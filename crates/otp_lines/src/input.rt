@@ -11,7 +11,7 @@ pub(crate) const PIECE: usize = 65536;
 pub(crate) const OUTPUT: usize = 11 * PIECE;
 
 // Whether the read and the write went well, how many bytes were read, the pending line's length, and how many bytes were to be printed.
-#[derive(Drop)]
+#[derive(Clone, Copy)]
 pub(crate) struct Turn {
     pub(crate) ok: bool,
     pub(crate) read: usize,

@@ -8,7 +8,7 @@ use lines::{LINE_FEED, extend};
 use text::find;
 
 // The pending line's length, and how many bytes are to be printed.
-#[derive(Drop)]
+#[derive(Clone, Copy)]
 pub(crate) struct Fed {
     pub(crate) n: usize,
     pub(crate) written: usize,

@@ -10,7 +10,7 @@ use text::{Number, decimal, hex};
 use words::codes::DONE;
 
 // A factor's field: the factor, or a number that is not right.
-#[derive(Drop)]
+#[derive(Clone, Copy)]
 pub enum FactorRead {
     Is(Factor),
     Bad,

@@ -8,7 +8,7 @@ use fields::{fields_answer, refused};
 use text::split_six;
 
 // What is printed for a line: the first `len` bytes; zeros stand behind them.
-#[derive(Drop)]
+#[derive(Clone, Copy)]
 pub struct Printed {
     pub len: usize,
     pub bytes: [u8; 10],

@@ -11,7 +11,7 @@ use crate::states::EMPTY;
 use words::bytes::{le_eight, swapped};
 
 // What a row is looked for by: a serial, its bytes in the other order so that a row's are compared as they stand, or that it is empty.
-#[derive(Drop)]
+#[derive(Clone, Copy)]
 enum Wanted {
     Serial(u64),
     Empty,

@@ -17,7 +17,7 @@ pub use storing::{clear, store_row, wipe_key, write_row};
 use window::{Seconds, Track};
 
 // The numbers of a row. The key stays in the table. The track stands first: behind a single byte, every copy of it would have padding to carry.
-#[derive(Drop)]
+#[derive(Clone, Copy)]
 pub struct Row {
     pub track: Track,
     pub state: u8,

@@ -14,14 +14,14 @@ use window::{Offset, Scheme, Seconds, Step, Track};
 use words::bytes::{be_at, be_eight, le_eight, zeros};
 
 // The place of a row in the table.
-#[derive(Drop)]
+#[derive(Clone, Copy)]
 pub enum Place {
     At(usize),
     Nowhere,
 }
 
 // A well-formed row's place and numbers; or that no row has the serial; or that the row is not well formed.
-#[derive(Drop)]
+#[derive(Clone, Copy)]
 pub enum Located {
     At(usize, Row),
     Unknown,

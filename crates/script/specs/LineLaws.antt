@@ -17,7 +17,7 @@ use Rattle.text.specs.Text.{decimal_of}
 use Rattle.lines.specs.Lines.{line_feed, cut, last, Held, Put}
 use Rattle.lines.specs.LinesLaws.{cut_line, cut-rest}
 use Rattle.lines.specs.BufferLaws.{held_nothing, held_none, held-some}
-use Rattle.bytes.specs.Bytes.{index_of, slice}
+use Rattle.words.specs.Search.{index_of, slice}
 use Rattle.window.specs.PasswordAt.{PasswordRule}
 use Rattle.row.specs.Row.{row_bytes}
 use Rattle.call_lines.specs.Line.{line_after, printed_of, LineLeft, left, line_left}

@@ -15,14 +15,14 @@ use row::{ROW_BYTES, clear};
 use words::bytes::same;
 
 // Whether no line was read yet, and how many rows the table has.
-#[derive(Drop)]
+#[derive(Clone, Copy)]
 pub struct Stage {
     pub fresh: bool,
     pub rows: usize,
 }
 
 // The stage after a line, and where what it prints ends.
-#[derive(Drop)]
+#[derive(Clone, Copy)]
 pub struct Served {
     pub fresh: bool,
     pub rows: usize,

@@ -11,7 +11,7 @@ use lines::{LINE_FEED, extend};
 use text::find;
 
 // How many bytes of the piece are read, the pending line's length, the stage, and where what was printed ends.
-#[derive(Drop)]
+#[derive(Clone, Copy)]
 pub struct Fed {
     pub used: usize,
     pub n: usize,

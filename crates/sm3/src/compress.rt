@@ -81,7 +81,7 @@ pub fn word_sum(r: Registers) -> u32
 
 // A value V with the sum of its words. The sum is made while the words are at hand: stored one by one and read back all at
 // once they would be waited for.
-#[derive(Drop)]
+#[derive(Clone, Copy)]
 pub struct Summed {
     pub value: Registers,
     pub sum: u32,

@@ -8,8 +8,7 @@ use crate::compress::iterate;
 use crate::padding::pad;
 use crate::table::constants;
 use crate::{digest_from, start};
-use bytes::copy;
-use words::bytes::word_at;
+use words::bytes::{copy, word_at};
 
 // Puts head and then body at the front of out.
 fn join(head: &[u8], body: &[u8], out: &mut [u8])

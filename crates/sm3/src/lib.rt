@@ -1,4 +1,6 @@
 // The hash SM3 (GB/T 32905-2016).
+#![tactic(auto)]
+
 pub mod block;
 pub mod compress;
 pub mod joined;
@@ -16,7 +18,7 @@ use words::bytes::put_be;
 use words::codes::{BAD_ARGUMENT, DONE};
 
 // The eight registers A to H, also the value V that a block changes (5.3).
-#[derive(Drop)]
+#[derive(Clone, Copy)]
 pub struct Registers {
     pub a: u32,
     pub b: u32,
@@ -29,7 +31,7 @@ pub struct Registers {
 }
 
 // What hashing gives: the digest, or a code with a digest of zeros.
-#[derive(Drop)]
+#[derive(Clone, Copy)]
 pub struct Hash {
     pub code: u16,
     pub digest: [u8; 32],

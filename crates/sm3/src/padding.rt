@@ -3,8 +3,7 @@ ghost use Rattle.std.specs.Prelude.{◌≡◌, ◌+◌, ◌-◌, ◌*◌, ◌/�
 ghost use Rattle.sm3.specs.Sm3.{padded};
 ghost use Rattle.sm3.specs.Rounds.{last_blocks, ended};
 
-use bytes::copy;
-use words::bytes::put_be;
+use words::bytes::{copy, put_be};
 
 // How many blocks follow the whole ones: two where the length has no room in one.
 pub(crate) fn last_blocks(len: usize) -> usize

@@ -8,14 +8,14 @@ use crate::sides::sides_of;
 use words::codes::{BAD_ARGUMENT, DONE};
 
 // The words of an encrypted block, or the code that refuses the round keys, with all words zero.
-#[derive(Drop)]
+#[derive(Clone, Copy)]
 pub struct CipherWords {
     pub code: u16,
     pub output: Quad,
 }
 
 // The words of an encrypted block and the round keys, or the code that refuses the arguments, with all words zero.
-#[derive(Drop)]
+#[derive(Clone, Copy)]
 pub struct First {
     pub code: u16,
     pub keys: [u32; 32],

@@ -8,7 +8,7 @@ use words::bytes::put_be;
 use words::codes::{BAD_ARGUMENT, DONE};
 
 // The encrypted block, or the code that refuses the arguments, with all bytes zero.
-#[derive(Drop)]
+#[derive(Clone, Copy)]
 pub struct Cipher {
     pub code: u16,
     pub block: [u8; 16],

@@ -1,4 +1,6 @@
 // The block cipher SM4 (GB/T 32907): round keys from a key, and the encryption of a block. The modules that are public serve the crate lanes.
+#![tactic(auto)]
+
 mod chaining;
 mod encryption;
 pub mod parameters;

@@ -7,7 +7,7 @@ use words::bytes::word_at;
 use words::word::rotate_left;
 
 // Four words in a row: X_i, X_i+1, X_i+2, X_i+3.
-#[derive(Drop)]
+#[derive(Clone, Copy)]
 pub struct Quad {
     pub a: u32,
     pub b: u32,

@@ -8,7 +8,7 @@ use crate::round::{Quad, key_step, words_of};
 use words::codes::{BAD_ARGUMENT, DONE};
 
 // The round keys, or the code that refuses a key, with all words zero.
-#[derive(Drop)]
+#[derive(Clone, Copy)]
 pub struct Keys {
     pub code: u16,
     pub words: [u32; 32],

@@ -11,7 +11,7 @@ use crate::schedule::masked;
 use words::codes::DONE;
 
 // The words K_i to K_i+3 and X_i to X_i+3.
-#[derive(Drop)]
+#[derive(Clone, Copy)]
 pub struct Sides {
     pub key: Quad,
     pub state: Quad,

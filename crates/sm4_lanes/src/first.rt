@@ -14,7 +14,7 @@ use sm4::schedule::masked;
 use sm4::sides::put_keys;
 
 // The words K_i to K_i+3, and X_i to X_i+3 of each block.
-#[derive(Drop)]
+#[derive(Clone, Copy)]
 pub struct Keyed {
     pub key: Quad,
     pub first: Quad,

@@ -9,7 +9,7 @@ use sm4::parameters::sbox;
 use sm4::round::round;
 
 // Three blocks, or their states X_i to X_i+3.
-#[derive(Drop)]
+#[derive(Clone, Copy)]
 pub struct Three {
     pub first: Quad,
     pub second: Quad,

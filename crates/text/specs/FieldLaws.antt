@@ -8,7 +8,7 @@ use borrow.Author.Tests.{eq-eqb, ne_eqb, ltb-true, ltb-false, eqb-true}
 use Rattle.std.proofs.Math.Dec.{eqb-suc-suc, eqb-zero-suc}
 use Rattle.std.proofs.Math.ListN.{length-set, length-drop}
 use Rattle.std.proofs.Math.Seq.{length-take-le, take-suc-set, take_all, append_snoc, take-length}
-use Rattle.bytes.specs.Bytes.{index_of, slice}
+use Rattle.words.specs.Search.{index_of, slice}
 use Rattle.words.specs.BoolLaws.{by-test}
 use Rattle.text.specs.Text.{bounded, comma, fields_of, field_end, field_at, ends_from, split_of}
 use Rattle.text.specs.Steps.{start_after, ends_after}

@@ -10,7 +10,7 @@ use Rattle.std.specs.Int.Bits.{and_block, and_lt, xor_self}
 use Rattle.std.proofs.lemmas.Nat.{xor_block, xor_lt}
 use Rattle.std.specs.Int.Count.{count_trailing_zeros, trailing_of_zero}
 use Rattle.std.proofs.Math.Seq.{slice_empty, slice-cons}
-use Rattle.bytes.specs.Bytes.{index_of, index_after, slice}
+use Rattle.words.specs.Search.{index_of, index_after, slice}
 use Rattle.words.specs.Bytes.{AreBytes, le_at}
 use Rattle.words.specs.ByteBitsLaws.{xor_zero, highest_bit-apart, trailing_shifted, trailing_odd, trailing_lt}
 use Rattle.words.specs.BoolLaws.{by-test}

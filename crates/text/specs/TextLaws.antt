@@ -8,7 +8,7 @@ use Rattle.std.proofs.lemmas.Bool.{eqb-false}
 use Rattle.std.proofs.Math.Dec.{leb-suc-suc}
 use Rattle.std.proofs.Math.Seq.{take-append_seam, drop-append_seam}
 use Rattle.words.specs.BoolLaws.{by-test, and_left, and_right, impossible}
-use Rattle.bytes.specs.Bytes.{index_of, index_after}
+use Rattle.words.specs.Search.{index_of, index_after}
 use Rattle.text.specs.Text.{digit_value, digits_from, decimal_of, bounded, number_in, byte_then, hex_of, decoded, decoded_of, HexLeft, hex_left, put_front, hex_into, comma, longer, fields_of, behind_commas, joined, sum_lengths, field_end, ends_from, split_of}
 use Rattle.text.specs.Steps.{all_hex, pairs_of}
 use Rattle.text.specs.declared.numbers.Number.{Number}

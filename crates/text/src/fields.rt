@@ -7,14 +7,14 @@ use crate::scan::find;
 const COMMA: u8 = 0x2c;
 
 // A field: the bytes of the line from start up to end.
-#[derive(Drop)]
+#[derive(Clone, Copy)]
 pub struct Field {
     pub start: usize,
     pub end: usize,
 }
 
 // Whether a line has six fields, and the places where they end; six zeros where it has not.
-#[derive(Drop)]
+#[derive(Clone, Copy)]
 pub struct Split {
     pub ok: bool,
     pub ends: [usize; 6],

@@ -5,10 +5,10 @@ ghost use Rattle.text.specs.Text.{digit_value, decoded, decoded_of, hex_left, he
 ghost use Rattle.text.specs.Steps.{all_hex, pairs_of};
 
 use crate::digit::digit;
-use bytes::copy;
+use words::bytes::copy;
 
 // Whether the digits were right and not too many, how many bytes they are, and the bytes with zeros behind them. Of other digits all is zero.
-#[derive(Drop)]
+#[derive(Clone, Copy)]
 pub struct Decoded {
     pub ok: bool,
     pub len: usize,
@@ -99,7 +99,7 @@ pub fn hex(s: &[u8]) -> Decoded
 // ---- any count of bytes
 
 // How many bytes were put into the output, or digits that are wrong or too many.
-#[derive(Drop)]
+#[derive(Clone, Copy)]
 pub enum HexRead {
     Bytes(usize),
     Bad,

@@ -1,4 +1,6 @@
 // The text of a line (document 01, "Line program"): its fields, decimal numbers and hexadecimal bytes.
+#![tactic(auto)]
+
 mod digit;
 mod fields;
 mod hexadecimal;

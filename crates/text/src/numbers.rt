@@ -5,7 +5,7 @@ ghost use Rattle.text.specs.Text.{digits_from, bounded, number_in};
 use crate::digit::is_decimal;
 
 // A number below 2^64, or bytes that are none.
-#[derive(Drop)]
+#[derive(Clone, Copy)]
 pub enum Number {
     Value(u64),
     Bad,

@@ -1,10 +1,9 @@
 // The search for a byte, eight at a time, for the proved callers: they require what those give.
 ghost use Rattle.std.specs.Prelude.{◌≡◌, ◌+◌, ◌/◌, ◌≤◌, length};
 ghost use Rattle.std.specs.Int.Count.{count_trailing_zeros};
-ghost use Rattle.bytes.specs.Bytes.{index_of, slice};
+ghost use Rattle.words.specs.Search.{index_of, slice};
 ghost use Rattle.text.specs.Steps.{first_zero};
 
-use bytes::scan::find as find_each;
 use std::num::wrapping_sub_u64;
 use words::bytes::le_eight;
 
@@ -26,6 +25,23 @@ fn marks(s: &[u8], at: usize, b: u8) -> u64
     ensures { count_trailing_zeros 64 result / 8 ≡ index_of b (slice at (at + 8) s.now) }
 {
     zero_marks(le_eight(s, at) ^ (b as u64 * ONES))
+}
+
+// The same for a few bytes, one at a time.
+fn find_each(s: &[u8], from: usize, to: usize, b: u8) -> usize
+    requires from_le_to { from ≤ to }
+    requires to_in_bounds { to ≤ length s.now }
+    ensures value { result ≡ from + index_of b (slice from to s.now) }
+    ensures upper_bound { result ≤ to }
+{
+    let mut at = from;
+    while at < to {
+        if s[at] == b {
+            return at;
+        }
+        at += 1;
+    }
+    to
 }
 
 // The place of the first b from `from` up to, not including, `to`; `to` where there is none.

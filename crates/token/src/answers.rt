@@ -2,7 +2,7 @@
 use window::{Offset, Seconds, Step};
 
 // What a query tells of a token.
-#[derive(Drop)]
+#[derive(Clone, Copy)]
 pub struct Status {
     pub state: u8,
     pub errors: u8,
@@ -10,14 +10,14 @@ pub struct Status {
 }
 
 // What a success carries.
-#[derive(Drop)]
+#[derive(Clone, Copy)]
 pub enum Content {
     Plain,
     Checked(Step, Offset),
     Queried(Status),
 }
 
-#[derive(Drop)]
+#[derive(Clone, Copy)]
 pub enum Refusal {
     BadMessage,
     BadMac,
@@ -43,7 +43,7 @@ pub enum Refusal {
 }
 
 // A success with its number and its content, or a refusal.
-#[derive(Drop)]
+#[derive(Clone, Copy)]
 pub enum Answer {
     Success(u16, Content),
     Refused(Refusal),

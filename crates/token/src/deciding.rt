@@ -13,20 +13,20 @@ use row::{Row, VOID};
 use window::{Outcome, Seconds, check};
 
 // What becomes of a row's key.
-#[derive(Drop)]
+#[derive(Clone, Copy)]
 pub enum Key {
     Kept,
     Zeroed,
 }
 
 // What is left of a row: every byte the same, or the row stored.
-#[derive(Drop)]
+#[derive(Clone, Copy)]
 pub enum Left {
     Same,
     Stored(Row, Key),
 }
 
-#[derive(Drop)]
+#[derive(Clone, Copy)]
 pub struct Decision {
     pub answer: Answer,
     pub left: Left,

@@ -8,7 +8,7 @@ use row::{EMPTY, LOCKED_BY_ERRORS, LOCKED_BY_HAND, NOT_ACTIVATED, READY, SUSPEND
 use window::{Asked, Size};
 
 // What is asked of a token, with the passwords; a challenge is lent beside it.
-#[derive(Drop)]
+#[derive(Clone, Copy)]
 pub enum Request {
     Login(Password),
     ChallengeLogin(Password),
@@ -24,7 +24,7 @@ pub enum Request {
 
 // What a password that several fresh steps have is called, which no pair is, a used one and a wrong one, whether errors lock the token, and whether a
 // double press is none.
-#[derive(Drop)]
+#[derive(Clone, Copy)]
 pub struct Fails {
     pub several: Refusal,
     pub used: Refusal,
@@ -58,7 +58,7 @@ const ELSEWHERE: Fails = Fails {
 };
 
 // The states that a request needs: any, or from one to another.
-#[derive(Drop)]
+#[derive(Clone, Copy)]
 pub enum Needs {
     Any,
     From(u8, u8),
@@ -77,7 +77,7 @@ const IF_SUSPENDED: Needs = Needs::From(SUSPENDED, SUSPENDED);
 const IF_NOT_VOID: Needs = Needs::From(NOT_ACTIVATED, SUSPENDED);
 
 // What a request does in a state that it needs: it changes the state, tells what the row says, or checks passwords.
-#[derive(Drop)]
+#[derive(Clone, Copy)]
 pub enum Way {
     Changes,
     Tells,
@@ -85,7 +85,7 @@ pub enum Way {
 }
 
 // What follows a success: the state is kept or becomes another; a void token's key is zeroed too.
-#[derive(Drop)]
+#[derive(Clone, Copy)]
 pub enum After {
     Kept,
     Becomes(u8),
@@ -93,7 +93,7 @@ pub enum After {
 }
 
 // A line of the table: the needed states, what is done, the success's number, and what follows.
-#[derive(Drop)]
+#[derive(Clone, Copy)]
 pub struct Line {
     pub needs: Needs,
     pub way: Way,

@@ -6,7 +6,7 @@ use otp::number::ten_to;
 use otp::typed::Password;
 
 // The numbers that are searched for: that of the accepted step and, of a pair, that of the step before it.
-#[derive(Drop)]
+#[derive(Clone, Copy)]
 pub struct Goal {
     pub pair: bool,
     pub modulus: u64,

@@ -16,19 +16,19 @@ pub use range::{COUNTS, FARTHEST, step_at};
 pub const TIME_TOKEN: u8 = 0;
 
 // A clock reading, in seconds.
-#[derive(Drop)]
+#[derive(Clone, Copy)]
 pub struct Seconds(pub u64);
 
 // A step: a count of periods or of events.
-#[derive(Drop)]
+#[derive(Clone, Copy)]
 pub struct Step(pub u64);
 
 // A time token's offset d, from -600 to 600, held as d + 600 as in the row (document 01, Part 4).
-#[derive(Drop)]
+#[derive(Clone, Copy)]
 pub struct Offset(pub u16);
 
 // The size of a window.
-#[derive(Drop)]
+#[derive(Clone, Copy)]
 pub enum Size {
     Small,
     Medium,
@@ -36,7 +36,7 @@ pub enum Size {
 }
 
 // How a token's passwords are made: its kind (0 time, 1 event), its algorithm, a number that `otp` knows, and its count of digits.
-#[derive(Drop)]
+#[derive(Clone, Copy)]
 pub struct Scheme {
     pub kind: u8,
     pub algorithm: u8,
@@ -44,7 +44,7 @@ pub struct Scheme {
 }
 
 // What a check reads of a token: how its passwords are made, the period in seconds, the first unused step, and the offset.
-#[derive(Drop)]
+#[derive(Clone, Copy)]
 pub struct Track {
     pub scheme: Scheme,
     pub period: u8,
@@ -54,7 +54,7 @@ pub struct Track {
 
 // What a check finds: the accepted step; or a password that several fresh steps have, that is presented again (the step before the first unused one has it),
 // that an older used step has, or that is wrong.
-#[derive(Drop)]
+#[derive(Clone, Copy)]
 pub enum Outcome {
     Accepted(Step),
     Several,
@@ -64,7 +64,7 @@ pub enum Outcome {
 }
 
 // What a check finds, how many passwords it computed, and how many fresh steps matched.
-#[derive(Drop)]
+#[derive(Clone, Copy)]
 pub struct Swept {
     pub outcome: Outcome,
     pub computed: u64,

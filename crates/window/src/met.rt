@@ -6,7 +6,7 @@ use crate::{Outcome, Step};
 
 // Whether a used step hit, and among them the one before the first unused step; how many fresh ones did, and the place of the last of those, which counts
 // where it is the only one.
-#[derive(Drop)]
+#[derive(Clone, Copy)]
 pub struct Met {
     pub used: bool,
     pub again: bool,

@@ -12,7 +12,7 @@ pub const FARTHEST: u64 = 600;
 pub const COUNTS: u64 = 0x1_0000_0000;
 
 // The steps from first up to, not including, end.
-#[derive(Drop)]
+#[derive(Clone, Copy)]
 pub struct Range {
     pub first: Step,
     pub end: Step,

@@ -9,6 +9,7 @@ pub mod ListsLaws
 pub mod SumLaws
 pub mod SwapLaws
 pub mod ByteBitsLaws
+pub mod Search
 pub mod Entries
 pub mod Exactly
 pub mod Codes

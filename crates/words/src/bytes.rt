@@ -1,5 +1,5 @@
 // Numbers in bytes, and tests on slices.
-ghost use Rattle.std.specs.Prelude.{◌≡◌, ◌+◌, ◌≤◌, ◌<◌, ◌^◌, length, get_or};
+ghost use Rattle.std.specs.Prelude.{◌≡◌, ◌+◌, ◌≤◌, ◌<◌, ◌^◌, length, get_or, ◌++◌, drop};
 ghost use Rattle.words.specs.Bytes.{be_at, le_at, swap_bytes, put_be};
 ghost use Rattle.words.specs.Lists.{same_bytes, all_zero, all_within};
 
@@ -90,6 +90,16 @@ pub fn put_be(s: &mut [u8], at: usize, k: usize, x: u64)
         s[at + left] = (rest % 256) as u8;
         rest = rest / 256;
     }
+}
+
+// Copies all bytes of s to the front of out.
+pub fn copy(s: &[u8], out: &mut [u8])
+    requires { length s.now ≤ length out.old }
+    ensures { out.new ≡ s.now ++ drop (length s.now) out.old }
+{
+    let n = s.len();
+    let front = &mut out[0..n];
+    front.copy_from_slice(s);
 }
 
 // Whether a and b are the same bytes. Every byte is read: the time says nothing of where they differ.

@@ -1,6 +1,6 @@
 use Rattle.std.proofs.Common.{◌≡◌, ◌+◌, ◌-◌, ◌≤◌, sym, refl, ap, ◌∙◌, arith, rules}
 use lib.Count.{trailing_le}
-use Rattle.bytes.specs.Bytes.{index_of, slice}
+use Rattle.words.specs.Search.{index_of, slice}
 use Rattle.text.specs.ScanLaws.{some-marked, none-marked}
 use Rattle.text.proofs.scan.find.Statement.{statement}
 use Rattle.text.proofs.scan.find.Tie as tie
