@@ -1,6 +1,6 @@
 -- A search by numbers of eight bytes: the byte that is looked for becomes a zero byte, and the lowest of the marks tells the first zero.
 use Rattle.std.specs.Prelude.{◌≡◌, ℕ, zero, suc, ◌+◌, ◌-◌, ◌*◌, ◌/◌, ◌%◌, ◌^◌, ◌<◌, ◌≤◌, cond, List, length, ◌==◌, ◌≢◌, bit_and, bit_xor, slice_index, slice_index_or, refl}
-use Rattle.std.proofs.Common.{sym, ap₂, ◌∙◌, add-zero, zero-lt-suc, eq-eqb, ne_eqb, eqb-true}
+use Rattle.std.proofs.Common.{sym, ap₂, ◌∙◌, add-one, add-zero, zero-lt-suc, eq-eqb, ne_eqb, eqb-true}
 use Rattle.std.proofs.Math.Path.{ap}
 use Rattle.std.proofs.Math.Nat.{pow-suc, one-le-pow}
 use native.Mathlib.Omega.{arith}
@@ -167,3 +167,18 @@ module _ (s : List ℕ) (at to b m : ℕ) (within : at + 8 ≤ to) (inside : to 
       let t : count_trailing_zeros 64 m ≡ 64 = ap (count_trailing_zeros 64) z ∙ trailing_of_zero 64 in
       let e = run-passed 8 s at to b within inside (omega arith) in
       omega arith
+
+-- ---- one byte at a time
+
+module _ (s : List ℕ) (at to b : ℕ) where
+  pub here_found : at < to → to ≤ length s → slice_index s at ≡ b → at + index_of b (slice at to s) ≡ at
+  unfolding index_of index_after slice
+  here_found h l e = rw (slice-cons at to s 0 h l, eq-eqb (slice_index s at) b e) (add-zero at)
+
+  pub here_passed : at < to → to ≤ length s → (slice_index s at ≢ b) → at + index_of b (slice at to s) ≡ at + 1 + index_of b (slice (at + 1) to s)
+  unfolding index_of index_after slice
+  here_passed h l e = rw (slice-cons at to s 0 h l, ne_eqb (slice_index s at) b e, add-one at) (omega arith)
+
+  pub none_left : to ≤ at → at ≤ to → at + index_of b (slice at to s) ≡ to
+  unfolding index_of slice
+  none_left h l = let e : at ≡ to = omega arith in rw (e, slice_empty to s) (add-zero to)

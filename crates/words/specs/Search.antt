@@ -2,7 +2,7 @@
 use Rattle.std.specs.Prelude.{ℕ, suc, Bool, true, false, List, [], ◌∷◌, take, drop, eqb}
 
 -- one more than n behind an element that is not meant
-abbrev pub index_after : Bool → ℕ → ℕ
+unfoldable pub index_after : Bool → ℕ → ℕ
 index_after true n = 0
 index_after false n = suc n
 
@@ -12,5 +12,5 @@ index_of b [] = 0
 index_of b (x ∷ s) = index_after (eqb x b) (index_of b s)
 
 -- the elements of s from `from` up to, not including, `to`
-abbrev pub slice : ℕ → ℕ → List ℕ → List ℕ
+unfoldable pub slice : ℕ → ℕ → List ℕ → List ℕ
 slice from to s = drop from (take to s)

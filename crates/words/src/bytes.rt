@@ -1,5 +1,5 @@
 // Numbers in bytes, and tests on slices.
-ghost use Rattle.std.specs.Prelude.{◌≡◌, ◌+◌, ◌≤◌, ◌<◌, ◌^◌, length, get_or, ◌++◌, drop};
+ghost use Rattle.std.specs.Prelude.{◌≡◌, ◌+◌, ◌≤◌, ◌<◌, ◌^◌, length, get_or, ◌++◌, drop, take};
 ghost use Rattle.words.specs.Bytes.{be_at, le_at, swap_bytes, put_be};
 ghost use Rattle.words.specs.Lists.{same_bytes, all_zero, all_within};
 
@@ -95,7 +95,7 @@ pub fn put_be(s: &mut [u8], at: usize, k: usize, x: u64)
 // Copies all bytes of s to the front of out.
 pub fn copy(s: &[u8], out: &mut [u8])
     requires { length s.now ≤ length out.old }
-    ensures { out.new ≡ s.now ++ drop (length s.now) out.old }
+    ensures { out.new ≡ take (length s.now) s.now ++ drop (length s.now) out.old }
 {
     let n = s.len();
     let front = &mut out[0..n];

@@ -1,0 +1,6 @@
+use Rattle.std.proofs.Common.{arith, rules}
+use Rattle.sm3.specs.Sm3Laws.{permuted_by_eight}
+use Rattle.sm3.proofs.round.p0.Goals as goal
+
+pub returns : goal.returns
+returns c = cc (permuted_by_eight c.args.x 9 (omega arith) (omega arith))

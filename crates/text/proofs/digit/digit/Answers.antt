@@ -1,0 +1,8 @@
+use Rattle.std.proofs.Common.{rules}
+use Rattle.text.specs.Text.{digit_value}
+use Rattle.text.proofs.digit.digit.Goals as goal
+
+pub returns : goal.returns
+unfolding digit_value
+returns c =
+    rw (c.pick.ensures, c.minus-3.ensures, c.pick-letter.ensures, c.minus-2.ensures, c.pick-lower.ensures, c.minus.ensures)

@@ -1,0 +1,9 @@
+use Rattle.std.proofs.Common.{◌-◌, arith, rules}
+use Rattle.text.specs.FieldLaws.{Walked, end-bounded, walked_more, split-other, split_done}
+use Rattle.text.proofs.fields.split_six.Given as goal
+
+abbrev pub invariant-loop-i : goal.invariant-loop-i
+invariant-loop-i l = Walked l.line l.ends l.start l.i
+
+abbrev pub decreases-loop-i : goal.decreases-loop-i
+decreases-loop-i l = 6 - l.i

@@ -1,0 +1,17 @@
+use Rattle.text.specs.HexLaws.{hex_odd, hex_long, hex_wrong, hex_done}
+use Rattle.std.proofs.Common.{◌∙◌, rules}
+use Rattle.text.proofs.hexadecimal.hex.Goals as goal
+
+pub returns-then-s-ne0 : goal.returns-then-s-ne0
+returns-then-s-ne0 c = c.wrong_digits.ensures ∙ hex_odd c.args.s.now c.if-s-ne0.true
+
+pub returns-then-s-gt64 : goal.returns-then-s-gt64
+returns-then-s-gt64 c = c.wrong_digits-then-s-gt64.ensures ∙ hex_long c.args.s.now c.if-s-ne0.false c.if-s-gt64.true
+
+pub returns-then-not-all_hex : goal.returns-then-not-all_hex
+returns-then-not-all_hex c =
+    c.wrong_digits-then-not-all_hex.ensures ∙ hex_wrong c.args.s.now c.if-s-ne0.false c.if-s-gt64.false c.padded.ensures c.values_of-values.ensures c.all_hex.ensures c.if-not-all_hex.true-raw
+
+pub returns : goal.returns
+returns c =
+    hex_done c.args.s.now c.if-s-ne0.false c.if-s-gt64.false c.padded.ensures c.values_of-values.ensures c.all_hex.ensures c.if-not-all_hex.false-raw c.pairs_of.ensures

@@ -1,0 +1,10 @@
+use Rattle.std.proofs.Common.{◌≡◌, ◌-◌, ◌*◌, ◌≤◌, ◌++◌, length, take, drop, sym, ◌∙◌, length-set, rules}
+use Rattle.text.specs.Steps.{pairs_of}
+use Rattle.text.specs.HexLaws.{pairs_more, pairs_end}
+use Rattle.text.proofs.hexadecimal.pairs_of.Given as goal
+
+abbrev pub invariant-loop-i : goal.invariant-loop-i
+invariant-loop-i l = (l.i ≤ 32) × ((length l.bytes ≡ 32) × (take l.i l.bytes ++ pairs_of (drop (2 * l.i) l.values) ≡ pairs_of l.values))
+
+abbrev pub decreases-loop-i : goal.decreases-loop-i
+decreases-loop-i l = 32 - l.i

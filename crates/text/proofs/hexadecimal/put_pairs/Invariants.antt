@@ -1,0 +1,9 @@
+use Rattle.std.proofs.Common.{◌-◌, rules}
+use Rattle.text.specs.HexLaws.{Putting, putting_none, putting_more, putting_end}
+use Rattle.text.proofs.hexadecimal.put_pairs.Given as goal
+
+abbrev pub invariant-loop-i : goal.invariant-loop-i
+invariant-loop-i l = Putting l.s l.initial.out l.out l.i
+
+abbrev pub decreases-loop-i : goal.decreases-loop-i
+decreases-loop-i l = l.n - l.i

@@ -1,0 +1,10 @@
+use Rattle.std.proofs.Common.{◌≡◌, ◌-◌, ◌≤◌, ◌++◌, map, length, take, drop, sym, ◌∙◌, length-set, rules}
+use Rattle.text.specs.Text.{digit_value}
+use Rattle.text.specs.HexLaws.{values_more, values-end}
+use Rattle.text.proofs.hexadecimal.values_of.Given as goal
+
+abbrev pub invariant-loop-i : goal.invariant-loop-i
+invariant-loop-i l = (l.i ≤ 64) × ((length l.values ≡ 64) × (take l.i l.values ++ map digit_value (drop l.i l.digits) ≡ map digit_value l.digits))
+
+abbrev pub decreases-loop-i : goal.decreases-loop-i
+decreases-loop-i l = 64 - l.i

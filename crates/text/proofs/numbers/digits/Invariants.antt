@@ -1,0 +1,10 @@
+use Rattle.std.proofs.Common.{◌-◌, length, ap, ◌∙◌, arith, rules}
+use Rattle.text.specs.Text.{bounded}
+use Rattle.text.specs.DecimalLaws.{Read, digits-wrong, digit_read, digits_large, digits-small, read_more, digits-end}
+use Rattle.text.proofs.numbers.digits.Given as goal
+
+abbrev pub invariant-loop-i : goal.invariant-loop-i
+invariant-loop-i l = Read l.s l.value l.i
+
+abbrev pub decreases-loop-i : goal.decreases-loop-i
+decreases-loop-i l = length l.s - l.i

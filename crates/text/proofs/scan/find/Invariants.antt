@@ -1,0 +1,11 @@
+use Rattle.std.proofs.Common.{◌≡◌, ◌+◌, ◌-◌, ◌≤◌, sym, refl, ap, ◌∙◌, arith, rules}
+use Rattle.std.specs.Int.Count.{trailing_le}
+use Rattle.words.specs.Search.{index_of, slice}
+use Rattle.text.specs.ScanLaws.{some-marked, none-marked}
+use Rattle.text.proofs.scan.find.Given as goal
+
+abbrev pub invariant-loop-at : goal.invariant-loop-at
+invariant-loop-at l = (l.at ≤ l.to) × (l.from + index_of l.b (slice l.from l.to l.s) ≡ l.at + index_of l.b (slice l.at l.to l.s))
+
+abbrev pub decreases-loop-at : goal.decreases-loop-at
+decreases-loop-at l = l.to - l.at
