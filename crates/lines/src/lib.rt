@@ -1,4 +1,6 @@
 // Lines of an input that comes in pieces: the line that no line feed has ended yet, and the output.
+#![tactic(auto)]
+
 ghost use Rattle.std.specs.Prelude.{List, ◌++◌, ℕ, ◌+◌, ◌≤◌, length};
 ghost use Rattle.lines.specs.Lines.{Held, Put};
 

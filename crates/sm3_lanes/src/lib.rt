@@ -1,4 +1,6 @@
 // Four SM3 hashes of messages of one block side by side, for the proved layers above: they give the lengths that these functions require.
+#![tactic(auto)]
+
 mod messages;
 mod rounds;
 mod values;

@@ -1,0 +1,34 @@
+use Rattle.std.proofs.Common.{◌∙◌, arith, rules}
+use Rattle.sm3_lanes.specs.FourLaws.{stepped_of}
+use Rattle.sm3_lanes.proofs.rounds.four_early.Goals as goal
+
+pub early_round-r1-requires : goal.early_round-r1-requires
+early_round-r1-requires c = record { j_bound = omega (arith, c.requires.j_bound); l_bound = c.requires.l_bound; w_len = c.grow_four.auto.w ∙ c.requires.w_len; t_value = c.requires.t_value }
+
+pub overflow_add-j-2 : goal.overflow_add-j-2
+overflow_add-j-2 c = omega (arith, c.requires.j_bound)
+
+pub early_round-r2-requires : goal.early_round-r2-requires
+early_round-r2-requires c = record { j_bound = omega (arith, c.requires.j_bound); l_bound = c.requires.l_bound; w_len = c.grow_four.auto.w ∙ c.requires.w_len; t_value = c.requires.t_value }
+
+pub overflow_add-j-3 : goal.overflow_add-j-3
+overflow_add-j-3 c = omega (arith, c.requires.j_bound)
+
+pub early_round-r3-requires : goal.early_round-r3-requires
+early_round-r3-requires c = record { j_bound = omega (arith, c.requires.j_bound); l_bound = c.requires.l_bound; w_len = c.grow_four.auto.w ∙ c.requires.w_len; t_value = c.requires.t_value }
+
+pub overflow_add-j-4 : goal.overflow_add-j-4
+overflow_add-j-4 c = omega (arith, c.requires.j_bound)
+
+pub early_round-r4-requires : goal.early_round-r4-requires
+early_round-r4-requires c = record { j_bound = omega (arith, c.requires.j_bound); l_bound = c.requires.l_bound; w_len = c.grow_four.auto.w ∙ c.requires.w_len; t_value = c.requires.t_value }
+
+pub put_value-requires : goal.put_value-requires
+put_value-requires c = record { l_bound = c.requires.l_bound; s_len = c.requires.s_len }
+
+pub shape_of-w : goal.shape_of-w
+shape_of-w c = c.grow_four.auto.w
+
+pub returns : goal.returns
+returns c =
+    stepped_of c.args.l c.args.j c.args.s.now c.args.w.now c.grow_four.ensures c.value_at-r.ensures c.early_round-r1.ensures c.early_round-r2.ensures c.early_round-r3.ensures c.early_round-r4.ensures c.put_value.ensures

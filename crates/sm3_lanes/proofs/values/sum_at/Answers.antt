@@ -1,0 +1,5 @@
+use Rattle.std.proofs.Common.{◌∙◌, rules}
+use Rattle.sm3_lanes.proofs.values.sum_at.Goals as goal
+
+pub returns : goal.returns
+returns c = c.word_sum.ensures ∙ rw (c.xored.ensures, c.value_at.ensures)
