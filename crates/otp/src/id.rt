@@ -4,8 +4,7 @@ ghost use Rattle.words.specs.Bytes.{put};
 ghost use Rattle.otp.specs.Password.{factor_bytes, id_of};
 
 use crate::Factor;
-use words::bytes::copy;
-use words::bytes::put_be;
+use words::bytes::{copy, put_be};
 
 // Puts a factor of `width` bytes at at, and answers where it ends.
 fn put_factor(out: &mut [u8], at: usize, width: usize, factor: Factor) -> usize

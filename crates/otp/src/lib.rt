@@ -1,4 +1,6 @@
 // The password of GM/T 0021-2012 (document 01, Part 2).
+#![tactic(auto)]
+
 mod arguments;
 mod chain;
 mod cut;

@@ -1,0 +1,7 @@
+use Rattle.std.proofs.Common.{rules}
+use Rattle.otp.specs.Password.{arguments_ok}
+use Rattle.otp.proofs.arguments.arguments_ok.Goals as goal
+
+pub returns : goal.returns
+unfolding arguments_ok
+returns c = rw (c.is_given.ensures, c.is_given-2.ensures, c.is_below.ensures, c.challenge_ok.ensures)

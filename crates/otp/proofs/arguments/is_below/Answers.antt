@@ -1,0 +1,5 @@
+use Rattle.std.proofs.Common.{rules}
+use Rattle.otp.proofs.arguments.is_below.Goals as goal
+
+pub returns-in-Present : goal.returns-in-Present
+returns-in-Present c = rw c.in-Present.is

@@ -1,0 +1,11 @@
+use Rattle.std.proofs.Common.{◌≡◌, ◌-◌, ◌≤◌, arith, rules}
+use Rattle.sm4.specs.Sm4.{words_of}
+use Rattle.otp.specs.Chain.{chain}
+use Rattle.otp.specs.ChainLaws.{chain_more, block_part, block_length}
+use Rattle.otp.proofs.chain.chain.Given as goal
+
+abbrev pub invariant-loop-i : goal.invariant-loop-i
+invariant-loop-i l = (1 ≤ l.i) × ((l.i ≤ l.blocks) × (l.out ≡ words_of (chain l.keys l.s (l.i - 1))))
+
+abbrev pub decreases-loop-i : goal.decreases-loop-i
+decreases-loop-i l = l.blocks - l.i

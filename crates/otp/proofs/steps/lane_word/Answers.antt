@@ -1,0 +1,5 @@
+use Rattle.std.proofs.Common.{◌∙◌, rules}
+use Rattle.otp.proofs.steps.lane_word.Goals as goal
+
+pub returns : goal.returns
+returns c = c.span_word.ensures ∙ rw c.lane_number.ensures

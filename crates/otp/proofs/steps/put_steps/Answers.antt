@@ -1,0 +1,7 @@
+use Rattle.std.proofs.Common.{rules}
+use Rattle.otp.specs.StepLaws.{steps-put}
+use Rattle.otp.proofs.steps.put_steps.Goals as goal
+
+pub returns : goal.returns
+returns c =
+    steps-put c.args.at c.args.timed c.args.s c.args.n _ _ _ _ c.put_word.ensures c.put_word-2.ensures c.put_word-3.ensures
