@@ -1,4 +1,6 @@
 // What a line of the password's line program means (document 01, "Line program").
+#![tactic(auto)]
+
 mod fields;
 
 ghost use Rattle.std.specs.Prelude.{◌≡◌};

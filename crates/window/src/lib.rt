@@ -1,4 +1,6 @@
 // Steps and windows (document 01, Part 3).
+#![tactic(auto)]
+
 mod arguments;
 mod asked;
 mod checks;
