@@ -1,4 +1,6 @@
 // The row of a token and the table of rows (document 01, Part 4).
+#![tactic(auto)]
+
 mod finding;
 mod layout;
 mod ranges;

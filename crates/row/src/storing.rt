@@ -9,8 +9,7 @@ use crate::layout::{
     ALGORITHM, DIGITS, ERRORS, EXPIRY, GAP, KEY, KEY_LENGTH, KIND, LAST_USE, LIMIT, LOCKED_AT,
     NEXT, OFFSET, PERIOD, ROW_BYTES, SERIAL, SPARE, STATE, WAIT,
 };
-use words::bytes::copy;
-use words::bytes::{be_at, be_eight, put_be};
+use words::bytes::{be_at, be_eight, copy, put_be};
 
 // Stores a byte, unless it is there: a call that changes no number writes nothing.
 fn renew_byte(table: &mut [u8], at: usize, x: u8)

@@ -1,0 +1,13 @@
+use Prim.Native.Nat.{◌-◌, ◌≤◌}
+use Rattle.std.proofs.Math.Path.{◌≡◌, ◌∙◌}
+use Rattle.std.specs.Prelude.{refl, length}
+use Rattle.std.proofs.Common.{sym, rules}
+use Rattle.row.specs.Finding.{passes, first_from}
+use Rattle.row.specs.FindLaws.{none_left, first_passes, first_fails}
+use Rattle.row.proofs.finding.first_of.Given as goal
+
+abbrev pub invariant-loop-at : goal.invariant-loop-at
+invariant-loop-at l = (l.at ≤ length l.table) × (first_from l.width (passes l.table l.wanted) l.table l.at ≡ first_from l.width (passes l.table l.wanted) l.table l.start)
+
+abbrev pub decreases-loop-at : goal.decreases-loop-at
+decreases-loop-at l = length l.table - l.at

@@ -1,0 +1,7 @@
+use Rattle.row.specs.WriteLaws.{key_wiped}
+use Rattle.std.proofs.Common.{rules}
+use Rattle.row.proofs.storing.wipe_key.Goals as goal
+
+pub returns : goal.returns
+returns c =
+    key_wiped c.args.table.now c.args.at (c.requires) c.clear.ensures
