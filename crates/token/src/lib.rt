@@ -1,4 +1,6 @@
 // One token by value: the requests to it, its states and the answers (document 01, Part 5).
+#![tactic(auto)]
+
 mod answers;
 mod codes;
 mod deciding;

@@ -31,47 +31,47 @@ slice_bounds-fields_answer-end c = let six = six-fields c.args.line.now c.split_
 pub slice_bounds-fields_answer-count-2 : goal.slice_bounds-fields_answer-count-2
 slice_bounds-fields_answer-count-2 c = let six = six-fields c.args.line.now c.split_six-split.ensures (not-false c.split_six-split.result.ok c.if-not-split.false) in omega arith
 
--- LOST part-fields-answer-start-2 : tie.Need-slice-bounds-fields-answer-start-2
--- part-fields-answer-start-2 c = let six = six-fields c.before.before.before.before.before.before.args.line.now c.before.before.before.before.split-six.ensures (not-false c.before.before.before.before.split-six.result.ok c.before.before.if1.false) in omega arith
+pub slice_bounds-fields_answer-start-2 : goal.slice_bounds-fields_answer-start-2
+slice_bounds-fields_answer-start-2 c = let six = six-fields c.args.line.now c.split_six-split.ensures (not-false c.split_six-split.result.ok c.if-not-split.false) in omega arith
 
--- LOST part-fields-answer-end-2 : tie.Need-slice-bounds-fields-answer-end-2
--- part-fields-answer-end-2 c = let six = six-fields c.before.before.before.before.before.before.args.line.now c.before.before.before.before.split-six.ensures (not-false c.before.before.before.before.split-six.result.ok c.before.before.if1.false) in omega arith
+pub slice_bounds-fields_answer-end-2 : goal.slice_bounds-fields_answer-end-2
+slice_bounds-fields_answer-end-2 c = let six = six-fields c.args.line.now c.split_six-split.ensures (not-false c.split_six-split.result.ok c.if-not-split.false) in omega arith
 
 pub slice_bounds-fields_answer-count-3 : goal.slice_bounds-fields_answer-count-3
 slice_bounds-fields_answer-count-3 c = let six = six-fields c.args.line.now c.split_six-split.ensures (not-false c.split_six-split.result.ok c.if-not-split.false) in omega arith
 
--- LOST part-fields-answer-start-3 : tie.Need-slice-bounds-fields-answer-start-3
--- part-fields-answer-start-3 c = let six = six-fields c.before.before.before.before.before.before.before.args.line.now c.before.before.before.before.before.split-six.ensures (not-false c.before.before.before.before.before.split-six.result.ok c.before.before.before.if1.false) in omega arith
+pub slice_bounds-fields_answer-start-3 : goal.slice_bounds-fields_answer-start-3
+slice_bounds-fields_answer-start-3 c = let six = six-fields c.args.line.now c.split_six-split.ensures (not-false c.split_six-split.result.ok c.if-not-split.false) in omega arith
 
--- LOST part-fields-answer-end-3 : tie.Need-slice-bounds-fields-answer-end-3
--- part-fields-answer-end-3 c = let six = six-fields c.before.before.before.before.before.before.before.args.line.now c.before.before.before.before.before.split-six.ensures (not-false c.before.before.before.before.before.split-six.result.ok c.before.before.before.if1.false) in omega arith
+pub slice_bounds-fields_answer-end-3 : goal.slice_bounds-fields_answer-end-3
+slice_bounds-fields_answer-end-3 c = let six = six-fields c.args.line.now c.split_six-split.ensures (not-false c.split_six-split.result.ok c.if-not-split.false) in omega arith
 
 pub slice_bounds-fields_answer-count-4 : goal.slice_bounds-fields_answer-count-4
 slice_bounds-fields_answer-count-4 c = let six = six-fields c.args.line.now c.split_six-split.ensures (not-false c.split_six-split.result.ok c.if-not-split.false) in omega arith
 
--- LOST part-fields-answer-start-4 : tie.Need-slice-bounds-fields-answer-start-4
--- part-fields-answer-start-4 c = let six = six-fields c.before.before.before.before.before.before.before.before.args.line.now c.before.before.before.before.before.before.split-six.ensures (not-false c.before.before.before.before.before.before.split-six.result.ok c.before.before.before.before.if1.false) in omega arith
+pub slice_bounds-fields_answer-start-4 : goal.slice_bounds-fields_answer-start-4
+slice_bounds-fields_answer-start-4 c = let six = six-fields c.args.line.now c.split_six-split.ensures (not-false c.split_six-split.result.ok c.if-not-split.false) in omega arith
 
--- LOST part-fields-answer-end-4 : tie.Need-slice-bounds-fields-answer-end-4
--- part-fields-answer-end-4 c = let six = six-fields c.before.before.before.before.before.before.before.before.args.line.now c.before.before.before.before.before.before.split-six.ensures (not-false c.before.before.before.before.before.before.split-six.result.ok c.before.before.before.before.if1.false) in omega arith
+pub slice_bounds-fields_answer-end-4 : goal.slice_bounds-fields_answer-end-4
+slice_bounds-fields_answer-end-4 c = let six = six-fields c.args.line.now c.split_six-split.ensures (not-false c.split_six-split.result.ok c.if-not-split.false) in omega arith
 
 pub slice_bounds-fields_answer-count-5 : goal.slice_bounds-fields_answer-count-5
 slice_bounds-fields_answer-count-5 c = let six = six-fields c.args.line.now c.split_six-split.ensures (not-false c.split_six-split.result.ok c.if-not-split.false) in omega arith
 
--- LOST part-fields-answer-start-5 : tie.Need-slice-bounds-fields-answer-start-5
--- part-fields-answer-start-5 c = let six = six-fields c.before.before.before.before.before.before.before.before.before.args.line.now c.before.before.before.before.before.before.before.split-six.ensures (not-false c.before.before.before.before.before.before.before.split-six.result.ok c.before.before.before.before.before.if1.false) in omega arith
+pub slice_bounds-fields_answer-start-5 : goal.slice_bounds-fields_answer-start-5
+slice_bounds-fields_answer-start-5 c = let six = six-fields c.args.line.now c.split_six-split.ensures (not-false c.split_six-split.result.ok c.if-not-split.false) in omega arith
 
--- LOST part-fields-answer-end-5 : tie.Need-slice-bounds-fields-answer-end-5
--- part-fields-answer-end-5 c = let six = six-fields c.before.before.before.before.before.before.before.before.before.args.line.now c.before.before.before.before.before.before.before.split-six.ensures (not-false c.before.before.before.before.before.before.before.split-six.result.ok c.before.before.before.before.before.if1.false) in omega arith
+pub slice_bounds-fields_answer-end-5 : goal.slice_bounds-fields_answer-end-5
+slice_bounds-fields_answer-end-5 c = let six = six-fields c.args.line.now c.split_six-split.ensures (not-false c.split_six-split.result.ok c.if-not-split.false) in omega arith
 
 pub slice_bounds-fields_answer-count-6 : goal.slice_bounds-fields_answer-count-6
 slice_bounds-fields_answer-count-6 c = let six = six-fields c.args.line.now c.split_six-split.ensures (not-false c.split_six-split.result.ok c.if-not-split.false) in omega arith
 
--- LOST part-fields-answer-start-6 : tie.Need-slice-bounds-fields-answer-start-6
--- part-fields-answer-start-6 c = let six = six-fields c.before.before.before.before.before.before.before.before.before.before.args.line.now c.before.before.before.before.before.before.before.before.split-six.ensures (not-false c.before.before.before.before.before.before.before.before.split-six.result.ok c.before.before.before.before.before.before.if1.false) in omega arith
+pub slice_bounds-fields_answer-start-6 : goal.slice_bounds-fields_answer-start-6
+slice_bounds-fields_answer-start-6 c = let six = six-fields c.args.line.now c.split_six-split.ensures (not-false c.split_six-split.result.ok c.if-not-split.false) in omega arith
 
--- LOST part-fields-answer-end-6 : tie.Need-slice-bounds-fields-answer-end-6
--- part-fields-answer-end-6 c = let six = six-fields c.before.before.before.before.before.before.before.before.before.before.args.line.now c.before.before.before.before.before.before.before.before.split-six.ensures (not-false c.before.before.before.before.before.before.before.before.split-six.result.ok c.before.before.before.before.before.before.if1.false) in omega arith
+pub slice_bounds-fields_answer-end-6 : goal.slice_bounds-fields_answer-end-6
+slice_bounds-fields_answer-end-6 c = let six = six-fields c.args.line.now c.split_six-split.ensures (not-false c.split_six-split.result.ok c.if-not-split.false) in omega arith
 
 pub returns : goal.returns
 returns c =

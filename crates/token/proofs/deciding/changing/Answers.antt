@@ -1,0 +1,5 @@
+use Rattle.std.proofs.Common.{rules}
+use Rattle.token.proofs.deciding.changing.Goals as goal
+
+pub returns : goal.returns
+returns c = rw c.left_by-left.ensures

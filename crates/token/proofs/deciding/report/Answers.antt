@@ -1,0 +1,5 @@
+use Rattle.std.proofs.Common.{rules}
+use Rattle.token.proofs.deciding.report.Goals as goal
+
+pub returns : goal.returns
+returns c = rw (c.telling-decision.ensures, c.line_of.ensures, c.waited.ensures)

@@ -1,0 +1,6 @@
+use Rattle.token.specs.StatesLaws.{accepted-by}
+use Rattle.std.proofs.Common.{rules}
+use Rattle.token.proofs.states.accepted.Goals as goal
+
+pub returns : goal.returns
+returns c = accepted-by _ _ _ c.track_after-track.ensures c.changed.ensures
