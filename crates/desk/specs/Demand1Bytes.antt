@@ -141,7 +141,7 @@ loaded p key =
 
 -- a load takes the first empty row; the serial's row is the first one not empty that has it
 abbrev pub row_of : DeskCall → List ℕ → Place
-row_of (DeskCall.load p key) s = find_empty row_bytes s
+row_of (DeskCall.load p _) s = find_empty row_bytes s
 row_of (DeskCall.named request serial clock) s = find_row row_bytes s serial
 
 -- the accepted step that an answer carries, else 0

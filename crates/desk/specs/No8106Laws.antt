@@ -51,7 +51,7 @@ success-other w clock check Request.query = refl
 pub no_8106 : No8106
 no_8106 passwords (DeskCall.load p key) s = load-answer-holds Other refusal-other passwords s p key refl
 no_8106 passwords (DeskCall.named request serial clock) s =
-    named-answer-holds Other refusal-other passwords s request serial clock (λ at r. success-other _ clock _ request)
+    named-answer-holds Other refusal-other passwords s request serial clock (λ at r. success-other (row_now s at clock) clock (check_at passwords request s at clock) request)
 
 -- and no call has it among its codes
 pub not_listed : (call : DeskCall) → one_of 0x8106 (codes_of call) ≡ false

@@ -4,7 +4,7 @@ use Rattle.std.proofs.Math.Path.{refl}
 use Rattle.std.proofs.Common.{◌∙◌, inl, inr, arith, leb-true, leb-false}
 use mathlib.Core.List.{List, [], ◌∷◌, ◌++◌}
 use Rattle.words.specs.Bytes.{put, be_bytes}
-use Rattle.words.specs.PutLaws.{put-length, get_d_put}
+use Rattle.words.specs.PutLaws.{put-length, get_or-put}
 use Rattle.words.specs.BoolLaws.{by-test, and_left, and_right, or_left, or_right, either, and_both, clash}
 use Rattle.window.specs.declared.Track.{Track}
 use Rattle.window.specs.declared.Outcome.{Outcome}
@@ -22,7 +22,7 @@ use Rattle.desk.specs.declared.Particulars.{Particulars}
 use Rattle.desk.specs.Requests.{Request, DeskCall}
 use Rattle.desk.specs.Desk.{desk_after}
 use Rattle.desk.specs.LoadLaws.{loaded-key-short}
-use Rattle.desk.specs.BranchLaws.{load-holds, line_for, Succeeds, named-answer-holds, by-refusal}
+use Rattle.desk.specs.BranchLaws.{row_now, check_at, load-holds, line_for, Succeeds, named-answer-holds, by-refusal}
 use Rattle.desk.specs.Demand1BytesLaws.{demand_1_bytes}
 use Rattle.desk.specs.Demand1Bytes.{Change, laid, state, errors, next, locked_at, last_use, byte, wait_run_out, ran_out, one_more, accepted_step, besides, left_by, loaded, row_of, step_in, press_in, changes_for, left_in, Part, parts_of, in_parts, OtherBytesStay}
 use Rattle.desk.specs.LaidLaws.{end}
@@ -73,7 +73,7 @@ module _ (at : ℕ) (parts : List Part) where
       let kept : length (put s place c.bytes) ≡ length s = put-length s place c.bytes (omega arith) in
       let later = laid-stays (put s place c.bytes) cs (rw kept room) (and_right (fitting parts c) _ t) in
       let stays : (i : ℕ) → in_parts (Place.At at) parts i ≡ false → get_or (put s place c.bytes) i 0 ≡ get_or s i 0 =
-      λ i f. get_d_put s place c.bytes i (omega arith) (outside at i parts c (and_right (leb (end c) row_bytes) _ first) f) in
+      λ i f. get_or-put s place c.bytes i (omega arith) (outside at i parts c (and_right (leb (end c) row_bytes) _ first) f) in
       (later.0 ∙ kept, λ i f. later.1 i f ∙ stays i f)
 
 append-fitting : (parts : List Part) (cs ds : List Change) → all_fitting parts cs ≡ true → all_fitting parts ds ≡ true → all_fitting parts (cs ++ ds) ≡ true
@@ -120,15 +120,15 @@ module _ (s : List ℕ) (at clock : ℕ) (press : Bool) where
 
   success_covered : (w : Row) (check : Track → Asked → Outcome) (request : Request) → Succeeds AnswerCovered (line_for request) w clock check (line_for request).way
   unfolding be_bytes
-  success_covered w check (Request.login password) = λ a e. waited_covered _ _ refl (step_fits a.0)
-  success_covered w check (Request.challenge_login challenge password) = λ a e. waited_covered _ _ refl (step_fits a.0)
-  success_covered w check (Request.activate password following) = λ a e. waited_covered _ _ refl (step_fits a.0)
-  success_covered w check Request.lock = waited_covered _ _ refl refl
-  success_covered w check (Request.unlock password) = λ a e. waited_covered _ _ refl (step_fits a.0)
-  success_covered w check Request.suspend = waited_covered _ _ refl refl
-  success_covered w check (Request.resume password) = λ a e. waited_covered _ _ refl (step_fits a.0)
-  success_covered w check (Request.sync choice password following) = λ a e. waited_covered _ _ refl (step_fits a.0)
-  success_covered w check Request.void = waited_covered _ _ refl refl
+  success_covered w check (Request.login password) = λ a e. waited_covered (parts_of 0x0001) (besides s at clock press 0x0001 a.0) refl (step_fits a.0)
+  success_covered w check (Request.challenge_login challenge password) = λ a e. waited_covered (parts_of 0x0002) (besides s at clock press 0x0002 a.0) refl (step_fits a.0)
+  success_covered w check (Request.activate password following) = λ a e. waited_covered (parts_of 0x0101) (besides s at clock press 0x0101 a.0) refl (step_fits a.0)
+  success_covered w check Request.lock = waited_covered (parts_of 0x0102) (besides s at clock press 0x0102 0) refl refl
+  success_covered w check (Request.unlock password) = λ a e. waited_covered (parts_of 0x0103) (besides s at clock press 0x0103 a.0) refl (step_fits a.0)
+  success_covered w check Request.suspend = waited_covered (parts_of 0x0104) (besides s at clock press 0x0104 0) refl refl
+  success_covered w check (Request.resume password) = λ a e. waited_covered (parts_of 0x0105) (besides s at clock press 0x0105 a.0) refl (step_fits a.0)
+  success_covered w check (Request.sync choice password following) = λ a e. waited_covered (parts_of 0x0108) (besides s at clock press 0x0108 a.0) refl (step_fits a.0)
+  success_covered w check Request.void = waited_covered (parts_of 0x010a) (besides s at clock press 0x010a 0) refl refl
   success_covered w check Request.query = refl
 
 load_fits : (p : Particulars) (key : List ℕ) → length key ≤ 32 → all_fitting (parts_of 0x0140) (loaded p key) ≡ true
@@ -150,7 +150,7 @@ module _ (passwords : PasswordRule) (s : List ℕ) where
       })
   changes_covered (DeskCall.named request serial clock) at =
       let press = press_in passwords request s at clock in
-      named-answer-holds (AnswerCovered s at clock press) (refusal_covered s at clock press) passwords s request serial clock (λ by r. success_covered s at clock press _ _ request)
+      named-answer-holds (AnswerCovered s at clock press) (refusal_covered s at clock press) passwords s request serial clock (λ by r. success_covered s at clock press (row_now s by clock) (check_at passwords request s by clock) request)
 
   row_within : (call : DeskCall) (at : ℕ) → row_of call s ≡ Place.At at → at + row_bytes ≤ length s
   row_within (DeskCall.load p key) at e = empty-within row_bytes s (omega arith) at e

@@ -1,4 +1,6 @@
 // The desk over a lent table of tokens (document 01, Part 5): eleven calls, each with the answer and every byte of the table by an equation.
+#![tactic(auto)]
+
 mod arguments;
 mod calls;
 mod loading;

@@ -20,7 +20,7 @@ use Rattle.token.specs.declared.answers.Answer.{Answer}
 use Rattle.token.specs.Codes.{refusal_number, number_of}
 use Rattle.desk.specs.Requests.{Request, DeskCall}
 use Rattle.desk.specs.Desk.{desk_after, run, checked_of}
-use Rattle.desk.specs.BranchLaws.{line_for, Succeeds, load-answer-holds, named-answer-holds}
+use Rattle.desk.specs.BranchLaws.{line_for, row_now, check_at, Succeeds, load-answer-holds, named-answer-holds}
 use Rattle.ledger.specs.Ledger.{names}
 use Rattle.ledger.specs.Demand3.{step_in, accepted_steps, AfterVoid, acceptance_codes, CodesCarrySteps, NoneAccepted}
 use Rattle.ledger.specs.AnswerLaws.{refusal_high}
@@ -63,7 +63,7 @@ success-coded w clock check Request.query = refl
 desk_coded : (passwords : PasswordRule) (s : List ℕ) (call : DeskCall) → Coded (desk_after passwords call s).answer
 desk_coded passwords s (DeskCall.load p key) = load-answer-holds Coded refusal-coded passwords s p key refl
 desk_coded passwords s (DeskCall.named request serial clock) =
-    named-answer-holds Coded refusal-coded passwords s request serial clock (λ at reached. success-coded _ clock _ request)
+    named-answer-holds Coded refusal-coded passwords s request serial clock (λ at reached. success-coded (row_now s at clock) clock (check_at passwords request s at clock) request)
 
 carried : (n : ℕ) (o : Option (Step × Offset)) → one_of n acceptance_codes ≡ carries o → Exactly (one_of n acceptance_codes ≡ true) ((checked : Step × Offset) × (o ≡ some checked))
 carried n none t = (λ h. clash h t, λ x. let e = x.1 in impossible (cc))

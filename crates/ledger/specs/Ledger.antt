@@ -213,11 +213,11 @@ offset_with k clock a = record { 0 = cond (eqb k.scheme.kind time_token) (farthe
 
 -- a check's outcome: the success with step and d, the call for the next password (document 02, Ask 5), used or wrong
 abbrev pub judged_by : ℕ → Refusal → Refusal → Refusal → Track → ℕ → Outcome → Answer
-judged_by success several used wrong k clock (Outcome.Accepted a) = Answer.Success success (Content.Checked a (offset_with k clock a.0))
-judged_by success several used wrong k clock Outcome.Several = Answer.Refused several
-judged_by success several used wrong k clock Outcome.Again = Answer.Refused used
-judged_by success several used wrong k clock Outcome.Used = Answer.Refused used
-judged_by success several used wrong k clock Outcome.Wrong = Answer.Refused wrong
+judged_by success unclear stale missed k clock (Outcome.Accepted a) = Answer.Success success (Content.Checked a (offset_with k clock a.0))
+judged_by success unclear stale missed k clock Outcome.Several = Answer.Refused unclear
+judged_by success unclear stale missed k clock Outcome.Again = Answer.Refused stale
+judged_by success unclear stale missed k clock Outcome.Used = Answer.Refused stale
+judged_by success unclear stale missed k clock Outcome.Wrong = Answer.Refused missed
 
 -- a request to a loaded token, whose reading r has a wait run out by the clock
 module _ (passwords : PasswordRule) (l : Loaded) (m : Marks) (r : Reading) (clock : ℕ) where

@@ -13,9 +13,8 @@ use crate::frame::{
     is_marked,
 };
 use crate::reading::Heading;
-use words::bytes::copy;
 use sm3::joined::last_word;
-use words::bytes::put_be;
+use words::bytes::{copy, put_be};
 
 // Attribute, identifier, length and content.
 fn lay_item(out: &mut [u8], at: usize, identifier: u32, content: &[u8])

@@ -1,4 +1,6 @@
 // Messages of GM/T 0021-2012, Annex D (document 02, Asks 1 and 3): their bytes, read and written.
+#![tactic(auto)]
+
 pub mod frame;
 mod laying;
 pub mod mac;

@@ -8,7 +8,7 @@ use Rattle.std.proofs.Math.Dec.{eqb}
 use Rattle.std.proofs.Math.ListN.{length-set}
 use Rattle.std.proofs.Math.Seq.{get_or-set_same, get_or-set_other}
 use Rattle.words.specs.Bytes.{AreBytes}
-use Rattle.words.specs.BytesLaws.{get_d_put_be}
+use Rattle.words.specs.BytesLaws.{get_or-put_be}
 use Rattle.words.specs.Lists.{all_within}
 use Rattle.words.specs.BoolLaws.{and_left, and_right, clash}
 use Rattle.otp.specs.Typed.{password_ok, as_password}
@@ -134,10 +134,10 @@ module _ (s : List ℕ) (at : ℕ) (r : Row) (room : at + row_bytes ≤ length s
   stored-head : (n : ℕ) → n < 48 → get_or (store_row s at r) (at + n) 0 ≡ get_or head_stored (at + n) 0
   unfolding store_row
   stored-head n l =
-      get_d_put_be 8 _ (at + 80) _ (at + n) (inl (omega arith))
-      ∙ get_d_put_be 8 _ (at + 72) _ (at + n) (inl (omega arith))
-      ∙ get_d_put_be 2 _ (at + 56) _ (at + n) (inl (omega arith))
-      ∙ get_d_put_be 8 _ (at + 48) _ (at + n) (inl (omega arith))
+      get_or-put_be 8 _ (at + 80) _ (at + n) (inl (omega arith))
+      ∙ get_or-put_be 8 _ (at + 72) _ (at + n) (inl (omega arith))
+      ∙ get_or-put_be 2 _ (at + 56) _ (at + n) (inl (omega arith))
+      ∙ get_or-put_be 8 _ (at + 48) _ (at + n) (inl (omega arith))
 
   stored-state : (row_at (store_row s at r) at).state ≡ r.state
   unfolding row_at

@@ -5,7 +5,7 @@ use Rattle.std.proofs.lemmas.List.{take-append-le, drop-append-le, set-append_le
 use Rattle.std.proofs.Math.Seq.{take-append-add, drop-append-add}
 use Rattle.words.specs.Bytes.{put_be}
 use Rattle.words.specs.BytesLaws.{length-put_be}
-use Rattle.words.specs.PutLaws.{put-length, get_d_put}
+use Rattle.words.specs.PutLaws.{put-length, get_or-put}
 use Rattle.row.specs.declared.Row.{Row}
 use Rattle.row.specs.Row.{row_bytes, key_bytes, render}
 use Rattle.row.specs.RowLaws.{row-whole, length-render}
@@ -56,7 +56,7 @@ module _ (s : List ℕ) (at : ℕ) (room : at + row_bytes ≤ length s) where
     with_outside : Outside s (with_row s at b) at
     with_outside =
         let h : at + length b ≤ length s = omega arith in
-        record { sized = rw long at (put-length s at b h); stays = λ i apart. rw long at (get_d_put s at b i h (rw long apart)) }
+        record { sized = rw long at (put-length s at b h); stays = λ i apart. rw long at (get_or-put s at b i h (rw long apart)) }
 
 -- ---- what is stored is stored in the row's own bytes
 

@@ -80,13 +80,13 @@ put_be-behind zero p s n x e = refl
 put_be-behind (suc k) p s n x {at} e = rw (add_assoc at n k, set-behind p s (n + k) (x % 256) e) (put_be-behind k p (set s (n + k) (x % 256)) n (x / 256) e)
 
 -- a store elsewhere leaves an element
-pub get_d_put_be : (k : ℕ) (s : List ℕ) (at x i : ℕ) → (i < at) ⊎ (at + k ≤ i) → get_or (put_be k s at x) i 0 ≡ get_or s i 0
+pub get_or-put_be : (k : ℕ) (s : List ℕ) (at x i : ℕ) → (i < at) ⊎ (at + k ≤ i) → get_or (put_be k s at x) i 0 ≡ get_or s i 0
 unfolding put_be
-get_d_put_be zero s at x i apart = refl
-get_d_put_be (suc k) s at x i (inl l) =
-    get_d_put_be k (set s (at + k) (x % 256)) at (x / 256) i (inl l) ∙ get_or-set_other s (at + k) i (x % 256) 0 (λ e. omega arith)
-get_d_put_be (suc k) s at x i (inr l) =
-    get_d_put_be k (set s (at + k) (x % 256)) at (x / 256) i (inr (omega arith)) ∙ get_or-set_other s (at + k) i (x % 256) 0 (λ e. omega arith)
+get_or-put_be zero s at x i apart = refl
+get_or-put_be (suc k) s at x i (inl l) =
+    get_or-put_be k (set s (at + k) (x % 256)) at (x / 256) i (inl l) ∙ get_or-set_other s (at + k) i (x % 256) 0 (λ e. omega arith)
+get_or-put_be (suc k) s at x i (inr l) =
+    get_or-put_be k (set s (at + k) (x % 256)) at (x / 256) i (inr (omega arith)) ∙ get_or-set_other s (at + k) i (x % 256) 0 (λ e. omega arith)
 
 -- what was stored is read back, without what k bytes do not hold
 pub be_at-put_be : (k : ℕ) (s : List ℕ) (at x : ℕ) → at + k ≤ length s → be_at k (put_be k s at x) at ≡ x % 256 ^ k
@@ -95,7 +95,7 @@ be_at-put_be zero s at x h = sym (mod-one x)
 be_at-put_be (suc k) s at x h =
     ap₂ (λ (q r : ℕ). q * 256 + r)
     (be_at-put_be k (set s (at + k) (x % 256)) at (x / 256) (rw length-set (omega arith)))
-    (get_d_put_be k (set s (at + k) (x % 256)) at (x / 256) (at + k) (inr (omega arith)) ∙ get_or-set_same s (at + k) (x % 256) 0 (omega arith))
+    (get_or-put_be k (set s (at + k) (x % 256)) at (x / 256) (at + k) (inr (omega arith)) ∙ get_or-set_same s (at + k) (x % 256) 0 (omega arith))
     ∙ rw pow-suc (sym (mod-mul x (one-le-pow k 256 (zero-lt-suc 255)) (zero-lt-suc 255)))
 
 -- the bytes of a number are read as that number

@@ -38,11 +38,11 @@ pub set-put : (s : List ℕ) (at x : ℕ) → at < length s → set s at x ≡ p
 set-put s at x h = set_split s at x h ∙ rw (add-one at)
 
 -- a part put elsewhere leaves an element
-pub get_d_put : (s : List ℕ) (at : ℕ) (b : List ℕ) (i : ℕ) → at + length b ≤ length s → (i < at) ⊎ (at + length b ≤ i) → get_or (put s at b) i 0 ≡ get_or s i 0
-get_d_put s at b i h (inl l) =
+pub get_or-put : (s : List ℕ) (at : ℕ) (b : List ℕ) (i : ℕ) → at + length b ≤ length s → (i < at) ⊎ (at + length b ≤ i) → get_or (put s at b) i 0 ≡ get_or s i 0
+get_or-put s at b i h (inl l) =
     let n : length (take at s) ≡ at = length-take-le at s (omega arith) in
     get_or-append (take at s) (b ++ drop (at + length b) s) 0 i (omega arith) ∙ get_or-take at s i 0 l
-get_d_put s at b i h (inr l) =
+get_or-put s at b i h (inr l) =
     let front = take at s ++ b in
     let rest = drop (at + length b) s in
     let n : length front ≡ at + length b = rw (length-append, length-take-le at s (omega arith)) in

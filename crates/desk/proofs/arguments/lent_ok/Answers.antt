@@ -1,0 +1,5 @@
+use Rattle.std.proofs.Common.{rules}
+use Rattle.desk.proofs.arguments.lent_ok.Goals as goal
+
+pub returns : goal.returns
+returns c = rw c.table_ok.ensures

@@ -1,0 +1,6 @@
+use Rattle.message.specs.LendingLaws.{heading_tests}
+use Rattle.std.proofs.Common.{rules}
+use Rattle.message.proofs.writing.heading_fits.Goals as goal
+
+pub returns : goal.returns
+returns c = heading_tests c.args.heading c.is_named.ensures
