@@ -1,1 +1,3 @@
 // Double presses in lists of calls: definitions and theorems only.
+#![tactic(auto)]
+
