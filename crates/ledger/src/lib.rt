@@ -1,1 +1,3 @@
 // The ledger machine and demand 3: definitions and theorems only.
+#![tactic(auto)]
+

@@ -1,4 +1,6 @@
 // Messages served as the desk's calls (document 02, Ask 1).
+#![tactic(auto)]
+
 mod items;
 mod services;
 mod serving;

@@ -1,3 +1,2 @@
 // Double presses in lists of calls: definitions and theorems only.
 #![tactic(auto)]
-
