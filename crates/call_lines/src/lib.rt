@@ -1,4 +1,6 @@
 // What a line of the program desk_lines means: the call or the message that is served on a table, and the text that is printed for it.
+#![tactic(auto)]
+
 mod calls;
 mod fields;
 mod messages;

@@ -6,10 +6,10 @@ ghost use Rattle.call_lines.specs.Line.{code_text, decimal_text, signed_text, va
 ghost use Rattle.call_lines.specs.Puts.{Puts};
 
 use crate::Printed;
-use words::bytes::copy;
 use text::hex_digit;
 use token::{Answer, Content, number_of};
 use window::{FARTHEST, Offset};
+use words::bytes::copy;
 
 // The digits of a number: the bytes from start on.
 #[derive(Clone, Copy)]

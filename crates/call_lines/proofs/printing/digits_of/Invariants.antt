@@ -1,0 +1,9 @@
+use Rattle.std.proofs.Common.{arith, rules, length-set}
+use Rattle.call_lines.specs.PrintingLaws.{Stored, stored-none, start_positive, stored_more, stored_last}
+use Rattle.call_lines.proofs.printing.digits_of.Given as goal
+
+abbrev pub invariant-loop-rest : goal.invariant-loop-rest
+invariant-loop-rest l = Stored l.x l.bytes l.start l.rest
+
+abbrev pub decreases-loop-rest : goal.decreases-loop-rest
+decreases-loop-rest l = l.rest
