@@ -1,4 +1,6 @@
 // The functions for C and for other languages (include/dykeladder.h). A slice is a pointer and a length.
+#![tactic(auto)]
+
 mod checking;
 mod desk_calls;
 mod message_forms;

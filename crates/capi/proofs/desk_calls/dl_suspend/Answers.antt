@@ -1,0 +1,6 @@
+use Rattle.capi.specs.DeskLeftLaws.{left-plain}
+use Rattle.std.proofs.Common.{rules}
+use Rattle.capi.proofs.desk_calls.dl_suspend.Goals as goal
+
+pub returns : goal.returns
+returns c = left-plain _ _ c.suspend.ensures c.number_of.ensures

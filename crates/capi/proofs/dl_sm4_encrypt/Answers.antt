@@ -1,0 +1,5 @@
+use Rattle.std.proofs.Common.{rules}
+use Rattle.capi.proofs.dl_sm4_encrypt.Goals as goal
+
+pub returns : goal.returns
+returns c = rw c.encrypt-encrypted.ensures at c.store.ensures

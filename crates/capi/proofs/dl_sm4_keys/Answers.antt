@@ -1,0 +1,5 @@
+use Rattle.std.proofs.Common.{rules}
+use Rattle.capi.proofs.dl_sm4_keys.Goals as goal
+
+pub returns : goal.returns
+returns c = rw c.round_keys-keys.ensures at c.store_words.ensures
