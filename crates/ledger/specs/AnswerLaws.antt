@@ -20,7 +20,7 @@ use Rattle.desk.specs.Desk.{checked_of}
 use Rattle.desk.specs.BranchLaws.{by-refusal}
 use Rattle.ledger.specs.Ledger.{Entry, Loaded, Marks, Reading, run_out, follows, entered, needing, offset_with, judged_by, track_of, requested}
 use Rattle.ledger.specs.AcceptedLaws.{Acceptable}
-use Rattle.ledger.specs.LineLaws.{Listed, Checked, by-line}
+use Rattle.ledger.specs.LineLaws.{Listed, by-line}
 
 -- the step of a checked success is at or after `next`
 abbrev pub StepFrom : ℕ → Option (Step × Offset) → Type 0

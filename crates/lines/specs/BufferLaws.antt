@@ -1,6 +1,6 @@
 -- What the functions on the buffers return.
 use Rattle.std.specs.Prelude.{ℕ, ◌+◌, ◌-◌, ◌≤◌, ◌<◌, ◌≡◌, refl, Bool, true, false, ◌||◌, not, List, [], ◌++◌, ltb, eqb, length, take, drop}
-use Rattle.std.proofs.Common.{sym, ap, ◌∙◌, append_assoc, arith, ltb-true, ltb-false, eqb-true, length-append, length-take-le, take_at}
+use Rattle.std.proofs.Common.{ap, ◌∙◌, append_assoc, arith, ltb-true, ltb-false, eqb-true, length-append, length-take-le, take_at}
 use Rattle.words.specs.BoolLaws.{by-test, clash}
 use Rattle.words.specs.PutLaws.{put-part}
 use Rattle.lines.specs.Lines.{Held, Put}

@@ -9,7 +9,7 @@ use Rattle.words.specs.BoolLaws.{and_left, and_right, and_false, and_assoc, or_l
 use Rattle.words.specs.Lists.{one_of}
 use Rattle.message.specs.declared.reading.Heading.{Heading}
 use Rattle.message.specs.Message.{kinds, items_bytes}
-use Rattle.message.specs.Writing.{rising_from, items_hold, items_as_lent, sum, together}
+use Rattle.message.specs.Writing.{rising_from, items_hold, items_as_lent, sum}
 use Rattle.message.specs.Lending.{heading_fits, misfit, lent_fit}
 use Rattle.message.specs.ItemsReadLaws.{length-item}
 

@@ -1,5 +1,5 @@
 -- Reading and writing undo each other, and what is not written.
-use Rattle.std.specs.Prelude.{ℕ, ◌≡◌, refl, true, false, not, List, ◌++◌, leb, length, take, drop}
+use Rattle.std.specs.Prelude.{ℕ, ◌≡◌, refl, true, false, List, ◌++◌, leb, length, take, drop}
 use Rattle.std.proofs.Common.{sym, ap, ◌∙◌, arith, leb-true, leb-false, take_at, drop_at}
 use Rattle.words.specs.ListsLaws.{same_refl}
 use Rattle.words.specs.BoolLaws.{by-test, clash}

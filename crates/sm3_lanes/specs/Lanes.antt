@@ -1,5 +1,5 @@
 -- Four messages side by side: their words and registers stand interleaved, those of message l at 4 i + l.
-use Rattle.std.specs.Prelude.{◌≡◌, ℕ, zero, suc, ◌+◌, ◌-◌, ◌*◌, ◌%◌, ◌^◌, ◌<◌, ◌≤◌, List, [], ◌∷◌, ◌++◌, take, ◌≢◌, slice_index, slice_set}
+use Rattle.std.specs.Prelude.{◌≡◌, ℕ, zero, suc, ◌+◌, ◌*◌, ◌%◌, ◌^◌, ◌<◌, ◌≤◌, List, [], ◌∷◌, ◌++◌, take, ◌≢◌, slice_index, slice_set}
 use Rattle.words.specs.Bytes.{be_at}
 use Rattle.sm3.specs.Sm3.{iv, compressed}
 use Rattle.sm3.specs.declared.Registers.{Registers}

@@ -10,7 +10,7 @@ use Rattle.std.proofs.Math.ListN.{length-set, length-drop}
 use Rattle.std.proofs.Math.Seq.{length-take-le, take-suc-set, take_all, append_snoc, take-length}
 use Rattle.words.specs.Search.{index_of, slice}
 use Rattle.words.specs.BoolLaws.{by-test}
-use Rattle.text.specs.Text.{bounded, comma, fields_of, field_end, field_at, ends_from, split_of}
+use Rattle.text.specs.Text.{comma, fields_of, field_end, field_at, ends_from, split_of}
 use Rattle.text.specs.Steps.{start_after, ends_after}
 use Rattle.text.specs.TextLaws.{end-le, fields_positive, fields-from}
 use Rattle.text.specs.declared.fields.Field.{Field}

@@ -1,5 +1,4 @@
 use Rattle.call_lines.specs.LineLaws.{read_none, read_as, line-long, line-message, line-call}
-use Rattle.std.proofs.Common.{rules}
 use Rattle.call_lines.proofs.line_answer.Goals as goal
 
 pub returns-then-line-gt-LONGEST : goal.returns-then-line-gt-LONGEST

@@ -1,5 +1,4 @@
 use Rattle.call_lines.specs.LineLaws.{line-left}
-use Rattle.std.proofs.Common.{rules}
 use Rattle.call_lines.proofs.serve_line.Goals as goal
 
 pub returns : goal.returns

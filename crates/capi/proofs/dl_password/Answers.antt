@@ -1,5 +1,4 @@
 use Rattle.capi.specs.StoredLaws.{left_both}
-use Rattle.std.proofs.Common.{rules}
 use Rattle.capi.proofs.dl_password.Goals as goal
 
 pub returns : goal.returns

@@ -1,4 +1,3 @@
-use Rattle.std.proofs.Common.{rules}
 use Rattle.capi.proofs.dl_sm4.Goals as goal
 
 pub returns : goal.returns

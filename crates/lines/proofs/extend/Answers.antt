@@ -1,5 +1,5 @@
 use Rattle.lines.specs.BufferLaws.{extend_long, extend_done}
-use Rattle.std.proofs.Common.{arith, rules}
+use Rattle.std.proofs.Common.{arith}
 use Rattle.lines.proofs.extend.Goals as goal
 
 pub returns-then-line-n : goal.returns-then-line-n

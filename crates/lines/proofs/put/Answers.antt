@@ -1,5 +1,4 @@
 use Rattle.lines.specs.BufferLaws.{text-put}
-use Rattle.std.proofs.Common.{rules}
 use Rattle.lines.proofs.put.Goals as goal
 
 pub returns : goal.returns

@@ -1,4 +1,4 @@
-use Rattle.std.proofs.Common.{sym, ◌∙◌, rules}
+use Rattle.std.proofs.Common.{sym, ◌∙◌}
 use Rattle.std.proofs.lemmas.Bool.{not-true, not-false}
 use Rattle.otp.specs.PasswordLaws.{key-long, key-short, challenge-short, password-shown, answer-refused, answer-short, answer-stored}
 use Rattle.otp.proofs.password.Goals as goal

@@ -1,4 +1,3 @@
-use Rattle.std.proofs.Common.{rules}
 use Rattle.sm3.specs.Sm3Laws.{digest_of}
 use Rattle.sm3.proofs.digest.Goals as goal
 

@@ -1,4 +1,4 @@
-use Rattle.std.proofs.Common.{refl, ◌∙◌, arith, rules}
+use Rattle.std.proofs.Common.{refl, ◌∙◌, arith}
 use Rattle.sm3.specs.PaddingLaws.{last_blocks_fit}
 use Rattle.sm3.specs.Sm3Laws.{tail_length, digest-from-is}
 use Rattle.sm3.proofs.digest_from.Goals as goal

@@ -1,4 +1,4 @@
-use Rattle.std.proofs.Common.{arith, rules}
+use Rattle.std.proofs.Common.{arith}
 use Rattle.sm3.specs.Sm3Laws.{whole_hash, answer_hashed, answer-refused}
 use Rattle.sm3.proofs.sm3.Goals as goal
 

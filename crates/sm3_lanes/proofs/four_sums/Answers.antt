@@ -1,4 +1,4 @@
-use Rattle.std.proofs.Common.{◌∙◌, rules}
+use Rattle.std.proofs.Common.{◌∙◌}
 use Rattle.sm3_lanes.specs.FourLaws.{all-sums}
 use Rattle.sm3_lanes.proofs.four_sums.Goals as goal
 

@@ -1,4 +1,4 @@
-use Rattle.std.proofs.Common.{arith, rules}
+use Rattle.std.proofs.Common.{arith}
 use Rattle.call_lines.specs.LineLaws.{read_none, read_as, count_small, line-miscounted, name_first, line_unread, line_read}
 use Rattle.call_lines.proofs.calls.call_line.Goals as goal
 

@@ -1,5 +1,4 @@
 use Rattle.call_lines.specs.LineLaws.{read-call, decoded-within, challenge-bad, challenge-read}
-use Rattle.std.proofs.Common.{rules}
 use Rattle.call_lines.proofs.calls.challenge_line.Goals as goal
 
 pub returns-then-not-challenge : goal.returns-then-not-challenge

@@ -1,5 +1,4 @@
 use Rattle.call_lines.specs.LineLaws.{read-call, load-bad, key-within, load_read}
-use Rattle.std.proofs.Common.{rules}
 use Rattle.call_lines.proofs.calls.load_line.Goals as goal
 
 pub returns-then-not-read-key : goal.returns-then-not-read-key

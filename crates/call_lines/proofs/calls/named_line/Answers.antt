@@ -1,6 +1,5 @@
 use Rattle.call_lines.specs.Line.{call_by}
 use Rattle.call_lines.specs.LineLaws.{read_none, read_as, read-call}
-use Rattle.std.proofs.Common.{rules}
 use Rattle.call_lines.proofs.calls.named_line.Goals as goal
 
 pub returns-in-Load : goal.returns-in-Load

@@ -1,6 +1,5 @@
 use Rattle.text.specs.Text.{fields_of}
 use Rattle.call_lines.specs.LineLaws.{all-taken}
-use Rattle.std.proofs.Common.{rules}
 use Rattle.call_lines.proofs.calls.particulars_of.Goals as goal
 
 pub returns : goal.returns

@@ -1,5 +1,4 @@
 use Rattle.call_lines.specs.LineLaws.{read_none, read-call, sync-bad, sync-read}
-use Rattle.std.proofs.Common.{rules}
 use Rattle.call_lines.proofs.calls.sync_line.Goals as goal
 
 pub returns-then-not-choice : goal.returns-then-not-choice

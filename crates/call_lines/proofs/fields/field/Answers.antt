@@ -1,4 +1,4 @@
-use Rattle.std.proofs.Common.{arith, rules}
+use Rattle.std.proofs.Common.{arith}
 use Rattle.call_lines.specs.FieldsLaws.{field_past, field_bounds, field_there}
 use Rattle.call_lines.proofs.fields.field.Goals as goal
 

@@ -1,5 +1,4 @@
 use Rattle.call_lines.specs.FieldsLaws.{count-test}
-use Rattle.std.proofs.Common.{rules}
 use Rattle.call_lines.proofs.fields.has_fields.Goals as goal
 
 pub returns : goal.returns

@@ -1,7 +1,6 @@
-use Rattle.call_lines.specs.FieldsLaws.{Passed, passed_none, end-bounded, passed_more, passed-all}
-use Rattle.std.proofs.Common.{arith, rules}
-use Prim.Native.Nat.{◌-◌}
-use Rattle.call_lines.specs.FieldsLaws.{Passed, end-bounded, passed_more, passed-all}
+use Rattle.call_lines.specs.FieldsLaws.{passed_none, end-bounded, passed_more, passed-all}
+use Rattle.std.proofs.Common.{arith}
+use Rattle.call_lines.specs.FieldsLaws.{end-bounded, passed_more, passed-all}
 use Rattle.call_lines.proofs.fields.start_of.Goals as goal
 
 pub loop-passed-init : goal.loop-passed-init

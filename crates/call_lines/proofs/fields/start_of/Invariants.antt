@@ -1,7 +1,6 @@
-use Rattle.call_lines.specs.FieldsLaws.{Passed, passed_none, end-bounded, passed_more, passed-all}
-use Rattle.std.proofs.Common.{arith, rules}
+use Rattle.call_lines.specs.FieldsLaws.{Passed}
 use Prim.Native.Nat.{◌-◌}
-use Rattle.call_lines.specs.FieldsLaws.{Passed, end-bounded, passed_more, passed-all}
+use Rattle.call_lines.specs.FieldsLaws.{Passed}
 use Rattle.call_lines.proofs.fields.start_of.Given as goal
 
 abbrev pub invariant-loop-passed : goal.invariant-loop-passed

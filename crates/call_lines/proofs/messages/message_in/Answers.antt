@@ -1,6 +1,5 @@
 use Rattle.call_lines.specs.LineLaws.{read_none, read_as}
 use Rattle.call_lines.specs.MessageLineLaws.{message-wrong, message-within, message-read}
-use Rattle.std.proofs.Common.{rules}
 use Rattle.call_lines.proofs.messages.message_in.Goals as goal
 
 pub returns-in_default : goal.returns-in_default

@@ -1,6 +1,5 @@
 use Rattle.call_lines.specs.LineLaws.{read_none, read_as}
 use Rattle.call_lines.specs.MessageLineLaws.{field_short, message_unread, message-line-read}
-use Rattle.std.proofs.Common.{rules}
 use Rattle.call_lines.proofs.messages.message_line.Goals as goal
 
 pub returns-then-not-has_fields-clock : goal.returns-then-not-has_fields-clock

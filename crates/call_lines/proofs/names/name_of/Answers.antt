@@ -1,5 +1,4 @@
 use Rattle.call_lines.specs.Line.{name_of}
-use Rattle.std.proofs.Common.{rules}
 use Rattle.call_lines.proofs.names.name_of.Goals as goal
 
 pub returns : goal.returns

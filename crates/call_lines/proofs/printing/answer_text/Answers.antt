@@ -1,4 +1,4 @@
-use Rattle.std.proofs.Common.{arith, rules}
+use Rattle.std.proofs.Common.{arith}
 use Rattle.call_lines.specs.PrintingLaws.{code-length, success-text, refusal-text}
 use Rattle.call_lines.proofs.printing.answer_text.Goals as goal
 

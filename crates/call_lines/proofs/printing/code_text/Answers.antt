@@ -1,5 +1,4 @@
 use Rattle.call_lines.specs.Line.{code_text, printed_of}
-use Rattle.std.proofs.Common.{rules}
 use Rattle.call_lines.proofs.printing.code_text.Goals as goal
 
 pub returns : goal.returns

@@ -1,5 +1,5 @@
 use Rattle.std.proofs.Common.{arith, rules, length-set}
-use Rattle.call_lines.specs.PrintingLaws.{Stored, stored-none, start_positive, stored_more, stored_last}
+use Rattle.call_lines.specs.PrintingLaws.{stored-none, start_positive, stored_more, stored_last}
 use Rattle.call_lines.proofs.printing.digits_of.Goals as goal
 
 pub loop-rest-init : goal.loop-rest-init

@@ -1,5 +1,4 @@
-use Rattle.std.proofs.Common.{arith, rules, length-set}
-use Rattle.call_lines.specs.PrintingLaws.{Stored, stored-none, start_positive, stored_more, stored_last}
+use Rattle.call_lines.specs.PrintingLaws.{Stored}
 use Rattle.call_lines.proofs.printing.digits_of.Given as goal
 
 abbrev pub invariant-loop-rest : goal.invariant-loop-rest

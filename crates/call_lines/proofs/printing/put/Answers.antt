@@ -1,6 +1,5 @@
 use Rattle.std.specs.Prelude.{refl}
 use Rattle.call_lines.specs.PrintingLaws.{text-put}
-use Rattle.std.proofs.Common.{rules}
 use Rattle.call_lines.proofs.printing.put.Goals as goal
 
 pub returns : goal.returns

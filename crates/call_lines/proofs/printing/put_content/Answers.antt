@@ -1,4 +1,4 @@
-use Rattle.std.proofs.Common.{arith, rules}
+use Rattle.std.proofs.Common.{arith}
 use Rattle.call_lines.specs.PrintingLaws.{decimal_few, put-plain, put-checked, put-queried}
 use Rattle.call_lines.proofs.printing.put_content.Goals as goal
 

@@ -1,4 +1,4 @@
-use Rattle.std.proofs.Common.{arith, rules}
+use Rattle.std.proofs.Common.{arith}
 use Rattle.call_lines.specs.PrintingLaws.{digits-part}
 use Rattle.call_lines.proofs.printing.put_decimal.Goals as goal
 

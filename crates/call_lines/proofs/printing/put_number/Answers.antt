@@ -1,4 +1,4 @@
-use Rattle.std.proofs.Common.{arith, rules}
+use Rattle.std.proofs.Common.{arith}
 use mathlib.Core.List.{[], ◌∷◌}
 use Rattle.text.specs.Text.{comma}
 use Rattle.call_lines.specs.Line.{decimal_text}

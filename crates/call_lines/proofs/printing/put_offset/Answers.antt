@@ -1,4 +1,4 @@
-use Rattle.std.proofs.Common.{arith, rules}
+use Rattle.std.proofs.Common.{arith}
 use Prim.Native.Nat.{◌-◌}
 use Rattle.window.specs.Window.{farthest}
 use Rattle.call_lines.specs.PrintingLaws.{decimal_few, offset-plus, offset-minus}

@@ -1,5 +1,4 @@
 use Rattle.call_lines.specs.PrintingLaws.{part_copied}
-use Rattle.std.proofs.Common.{rules}
 use Rattle.call_lines.proofs.printing.with_part.Goals as goal
 
 pub returns : goal.returns

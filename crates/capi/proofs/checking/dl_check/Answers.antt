@@ -1,6 +1,5 @@
 use Rattle.std.proofs.Math.Path.{◌∙◌}
 use Rattle.capi.specs.CheckedLaws.{check_refused, step_room, computed-room, fresh-room, check_asked, check_unread, check_made, all-written}
-use Rattle.std.proofs.Common.{rules}
 use Rattle.capi.proofs.checking.dl_check.Goals as goal
 
 pub returns-then-not-ok-room : goal.returns-then-not-ok-room

@@ -1,5 +1,4 @@
 use Rattle.capi.specs.Checked.{check_numbers_ok}
-use Rattle.std.proofs.Common.{rules}
 use Rattle.capi.proofs.checking.numbers_ok.Goals as goal
 
 pub returns : goal.returns

@@ -1,5 +1,4 @@
 use Rattle.capi.specs.CheckedLaws.{presented-bad, presented-one, presented-challenged, following-bad, presented_two, pair-challenged}
-use Rattle.std.proofs.Common.{rules}
 use Rattle.capi.proofs.checking.presented_of.Goals as goal
 
 pub returns-in_default : goal.returns-in_default

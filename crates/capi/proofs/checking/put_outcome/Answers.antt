@@ -1,5 +1,4 @@
 use Rattle.capi.specs.CheckedLaws.{write_first}
-use Rattle.std.proofs.Common.{rules}
 use Rattle.capi.proofs.checking.put_outcome.Goals as goal
 
 pub returns-in-Accepted : goal.returns-in-Accepted

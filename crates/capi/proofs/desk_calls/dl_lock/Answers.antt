@@ -1,5 +1,4 @@
 use Rattle.capi.specs.DeskLeftLaws.{left-plain}
-use Rattle.std.proofs.Common.{rules}
 use Rattle.capi.proofs.desk_calls.dl_lock.Goals as goal
 
 pub returns : goal.returns

@@ -1,5 +1,4 @@
 use Rattle.capi.specs.DeskLeftLaws.{left-short, left-answered}
-use Rattle.std.proofs.Common.{rules}
 use Rattle.capi.proofs.desk_calls.dl_resume.Goals as goal
 
 pub returns-then-values-lt-MOST_VALUES : goal.returns-then-values-lt-MOST_VALUES

@@ -1,4 +1,4 @@
-use Rattle.std.proofs.Common.{sym, rules}
+use Rattle.std.proofs.Common.{sym}
 use Rattle.std.proofs.Math.Path.{◌∙◌}
 use Rattle.message.specs.ReadingLaws.{item-ordered}
 use Rattle.capi.specs.MessageLeftLaws.{item-short, item_refused, item-none, item-done}

@@ -1,5 +1,4 @@
 use Rattle.capi.specs.MessageLeftLaws.{read_short, read-refused, read_done}
-use Rattle.std.proofs.Common.{rules}
 use Rattle.capi.proofs.message_forms.dl_message_read.Goals as goal
 
 pub returns-then-fields-lt-MESSAGE_FIELDS : goal.returns-then-fields-lt-MESSAGE_FIELDS

@@ -1,6 +1,5 @@
 use Rattle.capi.specs.MessageLeft.{heading_for}
 use Rattle.capi.specs.MessageLeftLaws.{write_short, write_refused, write_done}
-use Rattle.std.proofs.Common.{rules}
 use Rattle.capi.proofs.message_forms.dl_message_write.Goals as goal
 
 pub returns-then-written-eq0 : goal.returns-then-written-eq0

@@ -1,4 +1,4 @@
-use Rattle.std.proofs.Common.{arith, length-set, rules}
+use Rattle.std.proofs.Common.{arith, length-set}
 use Rattle.capi.specs.MessageLeftLaws.{three-put}
 use Rattle.capi.proofs.message_forms.put_place.Goals as goal
 

@@ -1,4 +1,3 @@
-use Rattle.std.proofs.Common.{rules}
 use Rattle.std.proofs.Math.Seq.{take-length}
 use Rattle.words.specs.OutputLaws.{stored-refusal, stored_short, stored-whole}
 use Rattle.capi.specs.StoredLaws.{left_both}

@@ -1,4 +1,3 @@
-use Rattle.std.proofs.Common.{rules}
 use Rattle.capi.proofs.values.put_answer.Goals as goal
 
 pub returns-in-Success : goal.returns-in-Success

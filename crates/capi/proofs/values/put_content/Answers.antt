@@ -1,4 +1,4 @@
-use Rattle.std.proofs.Common.{arith, length-set, rules}
+use Rattle.std.proofs.Common.{arith, length-set}
 use Rattle.capi.specs.DeskLeftLaws.{plain-written, checked-written, queried-written}
 use Rattle.capi.proofs.values.put_content.Goals as goal
 

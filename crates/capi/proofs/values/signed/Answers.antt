@@ -1,5 +1,4 @@
 use Rattle.capi.specs.DeskLeftLaws.{word-ahead, word-behind}
-use Rattle.std.proofs.Common.{rules}
 use Rattle.capi.proofs.values.signed.Goals as goal
 
 pub returns-then-held-ge-FARTHEST : goal.returns-then-held-ge-FARTHEST

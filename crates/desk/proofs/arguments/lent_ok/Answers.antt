@@ -1,4 +1,3 @@
-use Rattle.std.proofs.Common.{rules}
 use Rattle.desk.proofs.arguments.lent_ok.Goals as goal
 
 pub returns : goal.returns

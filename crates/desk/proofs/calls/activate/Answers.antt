@@ -1,4 +1,4 @@
-use Rattle.std.proofs.Common.{ap₂, rules}
+use Rattle.std.proofs.Common.{ap₂}
 use Rattle.words.specs.BoolLaws.{and_false}
 use Rattle.otp.specs.Password.{challenge_ok}
 use Rattle.otp.specs.TypedLaws.{typed-bad, typed-is}

@@ -1,4 +1,4 @@
-use Rattle.std.proofs.Common.{ap, rules}
+use Rattle.std.proofs.Common.{ap}
 use Rattle.words.specs.BoolLaws.{and_true, and_false}
 use Rattle.otp.specs.TypedLaws.{typed-bad, typed-is}
 use Rattle.token.specs.declared.lines.Request.{Request}

@@ -1,4 +1,4 @@
-use Rattle.std.proofs.Common.{ap, rules}
+use Rattle.std.proofs.Common.{ap}
 use Rattle.otp.specs.Password.{challenge_ok}
 use Rattle.otp.specs.TypedLaws.{typed-bad, typed-is}
 use Rattle.token.specs.declared.lines.Request.{Request}

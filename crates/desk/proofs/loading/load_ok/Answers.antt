@@ -1,4 +1,4 @@
-use Rattle.std.proofs.Common.{arith, rules}
+use Rattle.std.proofs.Common.{arith}
 use Rattle.desk.specs.LoadLaws.{long-key-bad, load-tested}
 use Rattle.desk.proofs.loading.load_ok.Goals as goal
 

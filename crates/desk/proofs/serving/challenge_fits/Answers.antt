@@ -1,6 +1,4 @@
 use Rattle.std.proofs.Math.Path.{◌∙◌}
-use Rattle.std.proofs.Math.Logic.{⊎_elim}
-use Rattle.std.proofs.Common.{arith, rules}
 use Rattle.desk.specs.Requests.{challenge_given}
 use Rattle.desk.specs.ServingLaws.{challenge_unasked}
 use Rattle.desk.proofs.serving.challenge_fits.Goals as goal

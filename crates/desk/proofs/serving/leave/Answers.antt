@@ -1,4 +1,3 @@
-use Rattle.std.proofs.Common.{rules}
 use Rattle.desk.proofs.serving.leave.Goals as goal
 
 pub returns-in-Kept : goal.returns-in-Kept

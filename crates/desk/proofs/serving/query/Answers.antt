@@ -1,5 +1,3 @@
-use Rattle.std.proofs.Math.Logic.{⊎_elim}
-use Rattle.std.proofs.Common.{arith, rules}
 use Rattle.desk.specs.ServingLaws.{query-unfit, query-missing, query-told}
 use Rattle.desk.proofs.serving.query.Goals as goal
 

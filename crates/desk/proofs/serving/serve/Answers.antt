@@ -1,5 +1,4 @@
-use Rattle.std.proofs.Math.Logic.{⊎_elim}
-use Rattle.std.proofs.Common.{arith, rules}
+use Rattle.std.proofs.Common.{arith}
 use Rattle.desk.specs.ServingLaws.{serve_unfit, serve_missing, serve_made, row_within, key-within, lent_in_range, clock-lent, challenge-lent}
 use Rattle.desk.proofs.serving.serve.Goals as goal
 

@@ -1,6 +1,6 @@
 use Prim.Native.Nat.{◌+◌}
 use Rattle.std.specs.Prelude.{refl}
-use Rattle.std.proofs.Common.{arith, rules}
+use Rattle.std.proofs.Common.{arith}
 use Rattle.std.proofs.Math.ListN.{get_or}
 use Rattle.message.specs.FrameLaws.{head-long, frame_short, head-unfit, head-room, items-unfit, frame_whole}
 use Rattle.message.proofs.frame.frame_of.Goals as goal

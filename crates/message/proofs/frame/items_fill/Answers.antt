@@ -1,8 +1,7 @@
-use Prim.Native.Nat.{◌+◌, ◌≤◌}
-use Rattle.std.proofs.Math.Path.{◌≡◌, ◌∙◌}
+use Prim.Native.Nat.{◌+◌}
+use Rattle.std.proofs.Math.Path.{◌∙◌}
 use Rattle.std.specs.Prelude.{refl}
 use Rattle.std.proofs.Common.{sym, arith}
-use Rattle.message.specs.Walking.{items_fill}
 use Rattle.message.specs.WalkLaws.{fill_none, fill_short, fill_marked, fill_next}
 use Rattle.message.proofs.frame.items_fill.Goals as goal
 

@@ -1,9 +1,6 @@
-use Prim.Native.Nat.{◌+◌, ◌≤◌}
-use Rattle.std.proofs.Math.Path.{◌≡◌, ◌∙◌}
-use Rattle.std.specs.Prelude.{refl}
-use Rattle.std.proofs.Common.{sym, arith}
+use Prim.Native.Nat.{◌≤◌}
+use Rattle.std.proofs.Math.Path.{◌≡◌}
 use Rattle.message.specs.Walking.{items_fill}
-use Rattle.message.specs.WalkLaws.{fill_none, fill_short, fill_marked, fill_next}
 use Rattle.message.proofs.frame.items_fill.Given as goal
 
 abbrev pub invariant-loop-left : goal.invariant-loop-left

@@ -1,5 +1,5 @@
 use Rattle.std.proofs.Math.Path.{◌∙◌}
-use Rattle.std.proofs.Common.{arith, rules}
+use Rattle.std.proofs.Common.{arith}
 use Rattle.std.specs.Prelude.{length, set}
 use Rattle.message.specs.Writing.{items_as_lent}
 use Rattle.message.specs.LendingLaws.{fit_length, fit_count}

@@ -1,4 +1,4 @@
-use Rattle.std.proofs.Common.{arith, length-set, rules}
+use Rattle.std.proofs.Common.{arith, length-set}
 use Rattle.words.specs.BytesLaws.{length-put_be}
 use Rattle.message.specs.FrameLaws.{head-long}
 use Rattle.message.specs.LayingLaws.{kind-small, head-laid}

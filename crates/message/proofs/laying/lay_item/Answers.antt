@@ -1,4 +1,4 @@
-use Rattle.std.proofs.Common.{arith, length-set, rules}
+use Rattle.std.proofs.Common.{arith, length-set}
 use Rattle.message.specs.LayingLaws.{length_identified, item_room, item-kept, item-laid}
 use Rattle.message.proofs.laying.lay_item.Goals as goal
 

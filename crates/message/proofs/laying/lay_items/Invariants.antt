@@ -1,8 +1,6 @@
 use Prim.Native.Nat.{◌-◌}
-use Rattle.std.proofs.Common.{sym, arith}
-use Rattle.std.proofs.Math.Path.{◌∙◌}
 use Rattle.std.specs.Prelude.{length}
-use Rattle.message.specs.LayingLaws.{Laying, laying_start, laying_end, next-length, next-room, next_requires, laying_on}
+use Rattle.message.specs.LayingLaws.{Laying}
 use Rattle.message.proofs.laying.lay_items.Given as goal
 
 abbrev pub invariant-loop-i : goal.invariant-loop-i

@@ -1,5 +1,4 @@
 use Rattle.message.specs.MacLaws.{mac_laid}
-use Rattle.std.proofs.Common.{rules}
 use Rattle.message.proofs.laying.lay_mac.Goals as goal
 
 pub returns : goal.returns

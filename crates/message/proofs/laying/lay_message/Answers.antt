@@ -1,6 +1,6 @@
 use Rattle.std.proofs.Math.Path.{◌≡◌, ◌∙◌}
 use Rattle.std.specs.Prelude.{refl}
-use Rattle.std.proofs.Common.{sym, arith, rules}
+use Rattle.std.proofs.Common.{sym, arith}
 use Rattle.message.specs.Message.{head_length}
 use Rattle.message.specs.Writing.{items_as_lent}
 use Rattle.message.specs.LayingLaws.{kind-small, lent-room, body-size, head-room, laid-long, laid-plain, laid-sealed}

@@ -1,4 +1,4 @@
-use Rattle.std.proofs.Common.{arith, rules}
+use Rattle.std.proofs.Common.{arith}
 use Rattle.message.specs.FrameLaws.{fits-long, fits-short}
 use Rattle.message.specs.HeadLaws.{whole-head}
 use Rattle.message.specs.ReadingLaws.{head-malformed, head_unsealed, head-sealed}

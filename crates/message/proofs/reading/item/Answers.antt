@@ -1,5 +1,4 @@
 use Rattle.message.specs.ReadingLaws.{whole-read, item_refused, item-placed}
-use Rattle.std.proofs.Common.{rules}
 use Rattle.message.proofs.reading.item.Goals as goal
 
 pub place_of-requires : goal.place_of-requires

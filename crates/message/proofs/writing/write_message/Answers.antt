@@ -1,4 +1,4 @@
-use Rattle.std.proofs.Common.{arith, rules}
+use Rattle.std.proofs.Common.{arith}
 use Rattle.std.specs.Prelude.{length}
 use Rattle.words.specs.Lists.{one_of}
 use Rattle.words.specs.BoolLaws.{and_left}

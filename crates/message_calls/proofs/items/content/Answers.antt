@@ -1,4 +1,4 @@
-use Rattle.std.proofs.Common.{arith, rules}
+use Rattle.std.proofs.Common.{arith}
 use Rattle.message_calls.specs.ItemLaws.{content-none, content-room, content-there}
 use Rattle.message_calls.proofs.items.content.Goals as goal
 

@@ -1,5 +1,4 @@
 use Rattle.message_calls.specs.ItemLaws.{has_not, has-item}
-use Rattle.std.proofs.Common.{rules}
 use Rattle.message_calls.proofs.items.has.Goals as goal
 
 pub returns-in_default : goal.returns-in_default

@@ -1,5 +1,4 @@
 use Rattle.message_calls.specs.ItemLaws.{count-other, count_same}
-use Rattle.std.proofs.Common.{rules}
 use Rattle.message_calls.proofs.items.has_only.Goals as goal
 
 pub returns-then-head-count : goal.returns-then-head-count

@@ -3,7 +3,6 @@ use Rattle.std.proofs.Math.Path.{◌∙◌}
 use Rattle.message_calls.specs.Serving.{only_these}
 use Rattle.message_calls.specs.OnlyLaws.{only_one, only_two, only_three}
 use Rattle.message_calls.specs.ItemLaws.{no_items}
-use Rattle.std.proofs.Common.{rules}
 use Rattle.message_calls.proofs.items.items_fit.Goals as goal
 
 pub returns-in-Login : goal.returns-in-Login

@@ -1,5 +1,4 @@
 use Rattle.message_calls.specs.ItemLaws.{serial-judged}
-use Rattle.std.proofs.Common.{rules}
 use Rattle.message_calls.proofs.items.serial_fits.Goals as goal
 
 pub returns : goal.returns

@@ -1,5 +1,4 @@
 use Rattle.message_calls.specs.ItemLaws.{serial-other, serial-read}
-use Rattle.std.proofs.Common.{rules}
 use Rattle.message_calls.proofs.items.serial_of.Goals as goal
 
 pub returns-then-serial-ne-SERIAL_BYTES : goal.returns-then-serial-ne-SERIAL_BYTES

@@ -1,6 +1,5 @@
 use Rattle.std.specs.Prelude.{eqb}
 use Rattle.message.specs.FrameLaws.{one-test, two_tests}
-use Rattle.std.proofs.Common.{rules}
 use Rattle.message_calls.proofs.services.options_fit.Goals as goal
 
 pub returns-in-Login : goal.returns-in-Login

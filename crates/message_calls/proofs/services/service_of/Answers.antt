@@ -1,5 +1,4 @@
 use Rattle.message_calls.specs.Serving.{service_of}
-use Rattle.std.proofs.Common.{rules}
 use Rattle.message_calls.proofs.services.service_of.Goals as goal
 
 pub returns : goal.returns

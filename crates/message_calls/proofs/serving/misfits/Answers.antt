@@ -1,5 +1,4 @@
 use Rattle.message_calls.specs.ServingLaws.{judged}
-use Rattle.std.proofs.Common.{rules}
 use Rattle.message_calls.proofs.serving.misfits.Goals as goal
 
 pub returns : goal.returns

@@ -1,4 +1,4 @@
-use Rattle.std.proofs.Common.{arith, rules}
+use Rattle.std.proofs.Common.{arith}
 use Rattle.desk.specs.Reads.{read_after}
 use Rattle.message.specs.HeadLaws.{head-options}
 use Rattle.message_calls.specs.Serving.{call_for}

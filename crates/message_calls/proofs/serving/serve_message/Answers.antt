@@ -1,5 +1,5 @@
 use Rattle.std.specs.Prelude.{[]}
-use Rattle.std.proofs.Common.{arith, rules}
+use Rattle.std.proofs.Common.{arith}
 use Rattle.window.specs.PasswordAt.{password_at}
 use Rattle.message.specs.FrameLaws.{fits-long, fits-short}
 use Rattle.message.specs.HeadLaws.{whole-head}

@@ -1,4 +1,3 @@
-use Rattle.std.proofs.Common.{rules}
 use Rattle.otp.specs.Password.{arguments_ok}
 use Rattle.otp.proofs.arguments.arguments_ok.Goals as goal
 

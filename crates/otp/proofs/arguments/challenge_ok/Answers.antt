@@ -1,4 +1,3 @@
-use Rattle.std.proofs.Common.{rules}
 use Rattle.otp.specs.Password.{challenge_ok}
 use Rattle.otp.proofs.arguments.challenge_ok.Goals as goal
 

@@ -1,4 +1,3 @@
-use Rattle.std.proofs.Common.{rules}
 use Rattle.otp.proofs.arguments.is_below.Goals as goal
 
 pub returns-in-Present : goal.returns-in-Present

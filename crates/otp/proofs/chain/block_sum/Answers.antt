@@ -1,4 +1,4 @@
-use Rattle.std.proofs.Common.{arith, rules}
+use Rattle.std.proofs.Common.{arith}
 use Rattle.otp.specs.ChainLaws.{sum_of_halves}
 use Rattle.otp.proofs.chain.block_sum.Goals as goal
 

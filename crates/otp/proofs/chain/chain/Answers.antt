@@ -1,6 +1,4 @@
-use Rattle.std.proofs.Common.{◌≡◌, ◌-◌, ◌≤◌, arith, rules}
-use Rattle.sm4.specs.Sm4.{words_of}
-use Rattle.otp.specs.Chain.{chain}
+use Rattle.std.proofs.Common.{◌≡◌, arith, rules}
 use Rattle.otp.specs.ChainLaws.{chain_more, block_part, block_length}
 use Rattle.otp.proofs.chain.chain.Goals as goal
 

@@ -1,7 +1,6 @@
-use Rattle.std.proofs.Common.{◌≡◌, ◌-◌, ◌≤◌, arith, rules}
+use Rattle.std.proofs.Common.{◌≡◌, ◌-◌, ◌≤◌}
 use Rattle.sm4.specs.Sm4.{words_of}
 use Rattle.otp.specs.Chain.{chain}
-use Rattle.otp.specs.ChainLaws.{chain_more, block_part, block_length}
 use Rattle.otp.proofs.chain.chain.Given as goal
 
 abbrev pub invariant-loop-i : goal.invariant-loop-i

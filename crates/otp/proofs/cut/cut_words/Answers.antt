@@ -1,4 +1,4 @@
-use Rattle.std.proofs.Common.{arith, rules}
+use Rattle.std.proofs.Common.{arith}
 use Rattle.otp.proofs.cut.cut_words.Goals as goal
 
 pub returns : goal.returns

@@ -1,5 +1,4 @@
-use Rattle.std.proofs.Common.{◌≡◌, ◌≤◌, ◌++◌, length, drop, sym, ◌∙◌, arith, length-set, rules}
-use Rattle.otp.specs.Password.{decimals}
+use Rattle.std.proofs.Common.{sym, ◌∙◌, arith, length-set, rules}
 use Rattle.otp.specs.PasswordLaws.{decimals-last, decimals-none}
 use Rattle.otp.proofs.cut.put_decimals.Goals as goal
 

@@ -1,6 +1,5 @@
-use Rattle.std.proofs.Common.{◌≡◌, ◌≤◌, ◌++◌, length, drop, sym, ◌∙◌, arith, length-set, rules}
+use Rattle.std.proofs.Common.{◌≡◌, ◌≤◌, ◌++◌, length, drop}
 use Rattle.otp.specs.Password.{decimals}
-use Rattle.otp.specs.PasswordLaws.{decimals-last, decimals-none}
 use Rattle.otp.proofs.cut.put_decimals.Given as goal
 
 abbrev pub invariant-loop-left : goal.invariant-loop-left

@@ -1,5 +1,4 @@
 use Rattle.otp.specs.StepCutsLaws.{timed_block, counted_block}
-use Rattle.std.proofs.Common.{rules}
 use Rattle.otp.proofs.cuts.block_of.Goals as goal
 
 pub returns-then-timed : goal.returns-then-timed

@@ -1,6 +1,5 @@
 use Rattle.otp.specs.StepCutsLaws.{lane_cut}
 use Rattle.otp.specs.Chain.{prepared}
-use Rattle.std.proofs.Common.{rules}
 use Rattle.otp.proofs.cuts.first_cut.Goals as goal
 
 pub returns : goal.returns

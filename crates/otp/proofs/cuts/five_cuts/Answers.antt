@@ -1,5 +1,4 @@
 use Rattle.otp.specs.StepCutsLaws.{five_cuts, lane_cut}
-use Rattle.std.proofs.Common.{rules}
 use Rattle.otp.proofs.cuts.five_cuts.Goals as goal
 
 pub returns : goal.returns

@@ -1,4 +1,4 @@
-use Rattle.std.proofs.Common.{arith, rules}
+use Rattle.std.proofs.Common.{arith}
 use Rattle.otp.specs.StepCutsLaws.{block_cut}
 use Rattle.otp.proofs.cuts.one_cut.Goals as goal
 

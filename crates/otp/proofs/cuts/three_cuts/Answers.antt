@@ -1,5 +1,4 @@
 use Rattle.otp.specs.StepCutsLaws.{lane_cuts}
-use Rattle.std.proofs.Common.{rules}
 use Rattle.otp.proofs.cuts.three_cuts.Goals as goal
 
 pub returns : goal.returns

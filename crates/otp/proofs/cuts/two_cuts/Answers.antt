@@ -1,5 +1,4 @@
 use Rattle.otp.specs.StepCutsLaws.{two_cuts, lane_cut}
-use Rattle.std.proofs.Common.{rules}
 use Rattle.otp.proofs.cuts.two_cuts.Goals as goal
 
 pub returns : goal.returns

@@ -1,4 +1,4 @@
-use Rattle.std.proofs.Common.{refl, rules}
+use Rattle.std.proofs.Common.{refl}
 use Rattle.words.specs.PutLaws.{put-part}
 use Rattle.otp.proofs.id.put_bytes.Goals as goal
 

@@ -1,4 +1,3 @@
-use Rattle.std.proofs.Common.{rules}
 use Rattle.otp.specs.IdLaws.{factor_absent, factor_present}
 use Rattle.otp.proofs.id.put_factor.Goals as goal
 

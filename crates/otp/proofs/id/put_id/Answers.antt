@@ -1,4 +1,4 @@
-use Rattle.std.proofs.Common.{arith, rules}
+use Rattle.std.proofs.Common.{arith}
 use Rattle.otp.specs.IdLaws.{put_id, factor_length}
 use Rattle.otp.proofs.id.put_id.Goals as goal
 

@@ -1,5 +1,4 @@
-use Rattle.std.proofs.Common.{◌≡◌, ◌-◌, length, refl, arith, rules}
-use Rattle.otp.specs.CutLists.{step_cut, Put}
+use Rattle.std.proofs.Common.{refl, arith, rules}
 use Rattle.otp.specs.CutListsLaws.{length-left, put-none, put-length, put_all, put_more}
 use Rattle.otp.proofs.lists.put_cuts.Goals as goal
 

@@ -1,6 +1,5 @@
-use Rattle.std.proofs.Common.{◌≡◌, ◌-◌, length, refl, arith, rules}
+use Rattle.std.proofs.Common.{◌≡◌, ◌-◌, length}
 use Rattle.otp.specs.CutLists.{step_cut, Put}
-use Rattle.otp.specs.CutListsLaws.{length-left, put-none, put-length, put_all, put_more}
 use Rattle.otp.proofs.lists.put_cuts.Given as goal
 
 abbrev pub invariant-loop-i : goal.invariant-loop-i

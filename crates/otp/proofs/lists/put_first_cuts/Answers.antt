@@ -1,4 +1,4 @@
-use Rattle.std.proofs.Common.{arith, rules}
+use Rattle.std.proofs.Common.{arith}
 use Rattle.otp.specs.CutListsLaws.{put-none, put_all, put-room, put_rest}
 use Rattle.otp.proofs.lists.put_first_cuts.Goals as goal
 

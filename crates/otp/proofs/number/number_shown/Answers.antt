@@ -1,6 +1,5 @@
 use Rattle.otp.specs.NumbersLaws.{number_fits, number_grows, number_more, number-end}
-use Rattle.otp.specs.Numbers.{number_from}
-use Rattle.std.proofs.Common.{◌≡◌, ◌+◌, ◌-◌, ◌*◌, ◌^◌, ◌≤◌, length, drop, sym, refl, ◌∙◌, arith, rules}
+use Rattle.std.proofs.Common.{sym, refl, ◌∙◌, arith, rules}
 use Rattle.otp.proofs.number.number_shown.Goals as goal
 
 pub loop-i-init : goal.loop-i-init

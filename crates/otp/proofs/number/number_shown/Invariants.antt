@@ -1,6 +1,5 @@
-use Rattle.otp.specs.NumbersLaws.{number_fits, number_grows, number_more, number-end}
 use Rattle.otp.specs.Numbers.{number_from}
-use Rattle.std.proofs.Common.{◌≡◌, ◌+◌, ◌-◌, ◌*◌, ◌^◌, ◌≤◌, length, drop, sym, refl, ◌∙◌, arith, rules}
+use Rattle.std.proofs.Common.{◌≡◌, ◌+◌, ◌-◌, ◌*◌, ◌^◌, ◌≤◌, length, drop}
 use Rattle.otp.proofs.number.number_shown.Given as goal
 
 abbrev pub invariant-loop-i : goal.invariant-loop-i

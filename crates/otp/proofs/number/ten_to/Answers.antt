@@ -1,5 +1,5 @@
 use Rattle.otp.specs.NumbersLaws.{ten_fits, ten_more}
-use Rattle.std.proofs.Common.{◌≡◌, ◌-◌, ◌^◌, ◌≤◌, refl, arith, rules}
+use Rattle.std.proofs.Common.{◌≡◌, refl, arith, rules}
 use Rattle.otp.proofs.number.ten_to.Goals as goal
 
 pub loop-i-init : goal.loop-i-init

@@ -1,5 +1,4 @@
-use Rattle.otp.specs.NumbersLaws.{ten_fits, ten_more}
-use Rattle.std.proofs.Common.{◌≡◌, ◌-◌, ◌^◌, ◌≤◌, refl, arith, rules}
+use Rattle.std.proofs.Common.{◌≡◌, ◌-◌, ◌^◌, ◌≤◌}
 use Rattle.otp.proofs.number.ten_to.Given as goal
 
 abbrev pub invariant-loop-i : goal.invariant-loop-i

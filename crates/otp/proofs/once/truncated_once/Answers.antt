@@ -1,4 +1,4 @@
-use Rattle.std.proofs.Common.{◌∙◌, rules}
+use Rattle.std.proofs.Common.{◌∙◌}
 use Rattle.otp.specs.Password.{id_of, filled}
 use Rattle.otp.specs.PasswordLaws.{keyed_hashed, keyed-chained}
 use Rattle.otp.proofs.once.truncated_once.Goals as goal

@@ -1,4 +1,4 @@
-use Rattle.std.proofs.Common.{length, ap, ◌∙◌, arith, rules}
+use Rattle.std.proofs.Common.{length, ap, ◌∙◌, arith}
 use Rattle.otp.specs.Password.{id_of}
 use Rattle.otp.specs.IdLaws.{id-length}
 use Rattle.otp.specs.ChainLaws.{length-prepared, chain_first, ciphered_of}

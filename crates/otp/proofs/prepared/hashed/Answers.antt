@@ -1,4 +1,4 @@
-use Rattle.std.proofs.Common.{◌∙◌, arith, rules}
+use Rattle.std.proofs.Common.{◌∙◌, arith}
 use Rattle.otp.specs.Password.{id_of}
 use Rattle.otp.specs.IdLaws.{id-length}
 use Rattle.otp.specs.HashedLaws.{laid-room, laid-behind, hashed_of}

@@ -1,4 +1,3 @@
-use Rattle.std.proofs.Common.{rules}
 use Rattle.otp.proofs.steps.id_number.Goals as goal
 
 pub returns-else-timed : goal.returns-else-timed

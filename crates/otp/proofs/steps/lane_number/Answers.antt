@@ -1,4 +1,4 @@
-use Rattle.std.proofs.Common.{sym, ◌∙◌, rules}
+use Rattle.std.proofs.Common.{sym, ◌∙◌}
 use Rattle.otp.specs.StepLaws.{number-used, number-idle}
 use Rattle.otp.proofs.steps.lane_number.Goals as goal
 

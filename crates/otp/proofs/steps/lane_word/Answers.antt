@@ -1,4 +1,4 @@
-use Rattle.std.proofs.Common.{◌∙◌, rules}
+use Rattle.std.proofs.Common.{◌∙◌}
 use Rattle.otp.proofs.steps.lane_word.Goals as goal
 
 pub returns : goal.returns

@@ -1,4 +1,3 @@
-use Rattle.std.proofs.Common.{rules}
 use Rattle.otp.specs.StepLaws.{steps-put}
 use Rattle.otp.proofs.steps.put_steps.Goals as goal
 

@@ -1,4 +1,3 @@
-use Rattle.std.proofs.Common.{rules}
 use Rattle.otp.specs.StepLaws.{word-put}
 use Rattle.otp.proofs.steps.put_word.Goals as goal
 

@@ -1,4 +1,4 @@
-use Rattle.std.proofs.Common.{arith, rules}
+use Rattle.std.proofs.Common.{arith}
 use Rattle.otp.specs.SpanLaws.{high_fits, span_first, span_second, span_third}
 use Rattle.otp.proofs.steps.span_word.Goals as goal
 

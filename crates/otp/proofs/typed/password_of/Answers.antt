@@ -1,5 +1,5 @@
 use Rattle.otp.specs.TypedLaws.{typed-miscounted, typed-other, typed-counted, typed-digits}
-use Rattle.std.proofs.Common.{arith, rules}
+use Rattle.std.proofs.Common.{arith}
 use Rattle.otp.proofs.typed.password_of.Goals as goal
 
 pub returns-then-not-n : goal.returns-then-not-n

@@ -1,5 +1,4 @@
 use Rattle.std.proofs.Common.{leb-true}
-use Rattle.std.specs.Prelude.{leb}
 use Rattle.words.specs.BoolLaws.{and_left}
 use Rattle.password_lines.specs.LineLaws.{small_digit, small-no_digit}
 use Rattle.password_lines.proofs.fields.digit.Goals as goal

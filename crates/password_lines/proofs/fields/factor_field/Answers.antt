@@ -1,4 +1,4 @@
-use Rattle.std.proofs.Common.{rules, sym, arith}
+use Rattle.std.proofs.Common.{sym, arith}
 use Prim.Native.Nat.{◌+◌}
 use Rattle.std.proofs.Math.Path.{◌∙◌}
 use Rattle.password_lines.specs.LineLaws.{factor_absent, factor_bad, factor_within, factor_above}

@@ -1,4 +1,4 @@
-use Rattle.std.proofs.Common.{sym, ap, arith, rules}
+use Rattle.std.proofs.Common.{sym, ap, arith}
 use Rattle.std.proofs.Math.Path.{◌∙◌}
 use Rattle.password_lines.specs.Line.{printed_of}
 use Rattle.password_lines.specs.LineLaws.{key-decoded, answer-bad-key, answer-bad-time, answer-bad-count, answer-read}

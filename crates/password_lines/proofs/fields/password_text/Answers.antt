@@ -1,4 +1,3 @@
-use Rattle.std.proofs.Common.{rules}
 use Rattle.std.specs.Prelude.{refl, replicate}
 use Rattle.std.proofs.Math.Path.{◌∙◌}
 use Rattle.password_lines.specs.LineLaws.{text-refused, text-printed}

@@ -1,5 +1,5 @@
 use Rattle.std.specs.Prelude.{refl}
-use Rattle.std.proofs.Common.{sym, rules}
+use Rattle.std.proofs.Common.{sym}
 use Rattle.std.proofs.Math.Path.{◌∙◌}
 use Rattle.password_lines.specs.LineLaws.{alone-byte, small-bad, small-within, small-above}
 use Rattle.password_lines.proofs.fields.small_field.Goals as goal

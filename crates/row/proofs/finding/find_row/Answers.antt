@@ -1,5 +1,4 @@
 use Rattle.row.specs.FindLaws.{found_swapped}
-use Rattle.std.proofs.Common.{rules}
 use Rattle.row.proofs.finding.find_row.Goals as goal
 
 pub returns : goal.returns

@@ -1,8 +1,6 @@
-use Prim.Native.Nat.{◌-◌, ◌≤◌}
-use Rattle.std.proofs.Math.Path.{◌≡◌, ◌∙◌}
-use Rattle.std.specs.Prelude.{refl, length}
+use Rattle.std.proofs.Math.Path.{◌∙◌}
+use Rattle.std.specs.Prelude.{refl}
 use Rattle.std.proofs.Common.{sym, rules}
-use Rattle.row.specs.Finding.{passes, first_from}
 use Rattle.row.specs.FindLaws.{none_left, first_passes, first_fails}
 use Rattle.row.proofs.finding.first_of.Goals as goal
 

@@ -1,9 +1,7 @@
 use Prim.Native.Nat.{◌-◌, ◌≤◌}
-use Rattle.std.proofs.Math.Path.{◌≡◌, ◌∙◌}
-use Rattle.std.specs.Prelude.{refl, length}
-use Rattle.std.proofs.Common.{sym, rules}
+use Rattle.std.proofs.Math.Path.{◌≡◌}
+use Rattle.std.specs.Prelude.{length}
 use Rattle.row.specs.Finding.{passes, first_from}
-use Rattle.row.specs.FindLaws.{none_left, first_passes, first_fails}
 use Rattle.row.proofs.finding.first_of.Given as goal
 
 abbrev pub invariant-loop-at : goal.invariant-loop-at

@@ -1,10 +1,8 @@
 use Prim.Native.Nat.{◌-◌, ◌≤◌}
-use Rattle.std.proofs.Math.Path.{◌≡◌, ◌∙◌}
-use Rattle.std.specs.Prelude.{refl, length}
-use Rattle.std.proofs.Common.{sym, arith, rules}
+use Rattle.std.proofs.Math.Path.{◌≡◌}
+use Rattle.std.specs.Prelude.{length}
 use Rattle.row.specs.declared.finding.Wanted.TheVariants.{Serial}
 use Rattle.row.specs.Finding.{passes, first_from}
-use Rattle.row.specs.FindLaws.{enough-left, four-passed}
 use Rattle.row.proofs.finding.first_with.Given as goal
 
 abbrev pub invariant-loop-at : goal.invariant-loop-at

@@ -1,5 +1,4 @@
 use Rattle.row.specs.FindLaws.{few-left, four-left}
-use Rattle.std.proofs.Common.{rules}
 use Rattle.row.proofs.finding.four_lack.Goals as goal
 
 pub returns-then-table-at : goal.returns-then-table-at

@@ -1,4 +1,3 @@
-use Rattle.std.proofs.Common.{rules}
 use Rattle.row.proofs.finding.passes.Goals as goal
 
 pub returns-in-Serial : goal.returns-in-Serial

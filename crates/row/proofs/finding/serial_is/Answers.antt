@@ -1,4 +1,3 @@
-use Rattle.std.proofs.Common.{rules}
 use Rattle.row.proofs.finding.serial_is.Goals as goal
 
 pub returns : goal.returns

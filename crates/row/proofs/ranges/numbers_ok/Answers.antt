@@ -1,6 +1,5 @@
 use Rattle.row.specs.Row.{number_tests, numbers_ok}
 use Rattle.row.specs.ReadLaws.{all_made_lem}
-use Rattle.std.proofs.Common.{rules}
 use Rattle.row.proofs.ranges.numbers_ok.Goals as goal
 
 pub returns : goal.returns

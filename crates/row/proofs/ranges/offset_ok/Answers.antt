@@ -1,5 +1,4 @@
 use borrow.Author.Tests.{eq-eqb, ne_eqb}
-use Rattle.std.proofs.Common.{rules}
 use Rattle.row.proofs.ranges.offset_ok.Goals as goal
 
 pub returns-then-track-eq-TIME_TOKEN : goal.returns-then-track-eq-TIME_TOKEN

@@ -1,5 +1,4 @@
 use Rattle.row.specs.Row.{track_ok}
-use Rattle.std.proofs.Common.{rules}
 use Rattle.row.proofs.ranges.track_ok.Goals as goal
 
 pub returns : goal.returns

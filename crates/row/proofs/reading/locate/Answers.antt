@@ -1,4 +1,4 @@
-use Rattle.std.proofs.Common.{sym, rules}
+use Rattle.std.proofs.Common.{sym}
 use Rattle.std.proofs.Math.Path.{◌∙◌}
 use Rattle.row.specs.FoundLaws.{found_within}
 use Rattle.row.specs.LocateLaws.{not_found, out_of_range, key-within, zeros_lacking, row-formed}

@@ -1,5 +1,4 @@
 use Rattle.row.specs.Row.{row_at}
-use Rattle.std.proofs.Common.{rules}
 use Rattle.row.proofs.reading.row_at.Goals as goal
 
 pub returns : goal.returns

@@ -1,5 +1,4 @@
 use Rattle.row.specs.ReadLaws.{zeros_read}
-use Rattle.std.proofs.Common.{rules}
 use Rattle.row.proofs.reading.zeros_ok.Goals as goal
 
 pub returns : goal.returns

@@ -1,9 +1,7 @@
 use Prim.Native.Nat.{◌-◌, ◌≤◌}
-use Rattle.std.proofs.Math.Path.{◌≡◌, ◌∙◌}
-use Rattle.std.specs.Prelude.{refl, length, drop, replicate}
+use Rattle.std.proofs.Math.Path.{◌≡◌}
+use Rattle.std.specs.Prelude.{length, drop, replicate}
 use mathlib.Core.List.{◌++◌}
-use Rattle.std.proofs.Common.{arith, rules, length-set}
-use Rattle.row.specs.WriteLaws.{clear_more, clear_end}
 use Rattle.row.proofs.storing.clear.Given as goal
 
 abbrev pub invariant-loop-i : goal.invariant-loop-i

@@ -1,4 +1,4 @@
-use Rattle.std.proofs.Common.{sym, rules}
+use Rattle.std.proofs.Common.{sym}
 use Rattle.std.proofs.Math.Seq.{set-get_or}
 use Rattle.row.proofs.storing.renew_byte.Goals as goal
 

@@ -1,4 +1,4 @@
-use Rattle.std.proofs.Common.{sym, rules}
+use Rattle.std.proofs.Common.{sym}
 use Rattle.std.proofs.Math.Path.{◌∙◌}
 use Rattle.words.specs.BytesLaws.{put_be-be_at}
 use Rattle.row.proofs.storing.renew_eight.Goals as goal

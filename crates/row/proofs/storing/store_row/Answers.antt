@@ -1,6 +1,5 @@
 use Rattle.std.proofs.Math.Path.{◌∙◌}
 use Rattle.row.specs.Table.{store_row}
-use Rattle.std.proofs.Common.{rules}
 use Rattle.row.proofs.storing.store_row.Goals as goal
 
 pub returns : goal.returns

@@ -1,5 +1,4 @@
 use Rattle.std.proofs.Math.Path.{◌∙◌}
-use Rattle.std.proofs.Common.{rules}
 use Rattle.row.proofs.storing.store_steps.Goals as goal
 
 pub returns : goal.returns

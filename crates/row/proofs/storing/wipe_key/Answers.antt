@@ -1,5 +1,4 @@
 use Rattle.row.specs.WriteLaws.{key_wiped}
-use Rattle.std.proofs.Common.{rules}
 use Rattle.row.proofs.storing.wipe_key.Goals as goal
 
 pub returns : goal.returns

@@ -1,4 +1,4 @@
-use Rattle.std.proofs.Common.{arith, length-set, rules}
+use Rattle.std.proofs.Common.{arith, length-set}
 use Rattle.row.specs.WriteLaws.{head-written}
 use Rattle.row.proofs.storing.write_head.Goals as goal
 

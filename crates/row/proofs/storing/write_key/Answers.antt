@@ -1,6 +1,5 @@
 use Rattle.std.specs.Prelude.{refl}
 use Rattle.row.specs.WriteLaws.{key-written}
-use Rattle.std.proofs.Common.{rules}
 use Rattle.row.proofs.storing.write_key.Goals as goal
 
 pub returns : goal.returns

@@ -1,5 +1,4 @@
 use Rattle.row.specs.WriteLaws.{steps-written}
-use Rattle.std.proofs.Common.{rules}
 use Rattle.row.proofs.storing.write_steps.Goals as goal
 
 pub returns : goal.returns

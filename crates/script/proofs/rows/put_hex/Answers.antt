@@ -1,14 +1,9 @@
-use Prim.Native.Nat.{◌-◌}
-use Rattle.std.specs.Prelude.{length}
-use Rattle.std.proofs.Common.{length-set, arith, rules}
-use Rattle.script.specs.RowsLaws.{Hexed, hexed_none, hexed_more, hexed_all}
+use Rattle.std.proofs.Common.{length-set, arith}
+use Rattle.script.specs.RowsLaws.{hexed_none, hexed_more, hexed_all}
 use Rattle.script.proofs.rows.put_hex.Goals as goal
 
 pub loop-i-init : goal.loop-i-init
 loop-i-init c = hexed_none c.args.out.now c.args.at c.args.bytes.now
-
--- LOST cast-b : tie.Need-overflow-cast-b invariant-loop decreases-loop
--- cast-b c = omega (arith, c.shared-slice-known2.given c.before.before.loop.i)
 
 pub hex_digit-requires : goal.hex_digit-requires
 hex_digit-requires c = omega (arith, c.shared_slice_known-in-loop-i-1.given c.loop-i.i)

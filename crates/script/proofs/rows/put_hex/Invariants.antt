@@ -1,7 +1,6 @@
 use Prim.Native.Nat.{◌-◌}
 use Rattle.std.specs.Prelude.{length}
-use Rattle.std.proofs.Common.{length-set, arith, rules}
-use Rattle.script.specs.RowsLaws.{Hexed, hexed_none, hexed_more, hexed_all}
+use Rattle.script.specs.RowsLaws.{Hexed}
 use Rattle.script.proofs.rows.put_hex.Given as goal
 
 abbrev pub invariant-loop-i : goal.invariant-loop-i

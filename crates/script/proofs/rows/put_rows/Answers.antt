@@ -1,6 +1,5 @@
-use Prim.Native.Nat.{◌-◌}
-use Rattle.std.proofs.Common.{arith, rules}
-use Rattle.script.specs.RowsLaws.{Rowed, rowed_none, row_room, row_within, rowed_more, rowed_all}
+use Rattle.std.proofs.Common.{arith}
+use Rattle.script.specs.RowsLaws.{rowed_none, row_room, row_within, rowed_more, rowed_all}
 use Rattle.script.proofs.rows.put_rows.Goals as goal
 
 pub loop-i-init : goal.loop-i-init

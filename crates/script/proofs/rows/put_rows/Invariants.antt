@@ -1,6 +1,5 @@
 use Prim.Native.Nat.{◌-◌}
-use Rattle.std.proofs.Common.{arith, rules}
-use Rattle.script.specs.RowsLaws.{Rowed, rowed_none, row_room, row_within, rowed_more, rowed_all}
+use Rattle.script.specs.RowsLaws.{Rowed}
 use Rattle.script.proofs.rows.put_rows.Given as goal
 
 abbrev pub invariant-loop-i : goal.invariant-loop-i

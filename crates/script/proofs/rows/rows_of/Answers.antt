@@ -1,4 +1,4 @@
-use Rattle.std.proofs.Common.{arith, rules}
+use Rattle.std.proofs.Common.{arith}
 use Rattle.script.specs.RowsLaws.{rows_short, rows_other, rows_unread, rows-many, rows_right}
 use Rattle.script.proofs.rows.rows_of.Goals as goal
 

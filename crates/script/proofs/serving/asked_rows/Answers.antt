@@ -1,5 +1,4 @@
 use Rattle.script.specs.LineLaws.{asked-first}
-use Rattle.std.proofs.Common.{rules}
 use Rattle.script.proofs.serving.asked_rows.Goals as goal
 
 pub returns-then-fresh : goal.returns-then-fresh

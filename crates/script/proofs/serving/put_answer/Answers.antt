@@ -1,6 +1,6 @@
 use Prim.Native.Nat.{◌<◌}
 use Rattle.std.specs.Prelude.{length}
-use Rattle.std.proofs.Common.{arith, rules}
+use Rattle.std.proofs.Common.{arith}
 use Rattle.script.specs.LineLaws.{text-within, answer-left, answer-end, answer-put}
 use Rattle.script.proofs.serving.put_answer.Goals as goal
 

@@ -1,4 +1,4 @@
-use Rattle.std.proofs.Common.{arith, rules}
+use Rattle.std.proofs.Common.{arith}
 use Rattle.window.specs.PasswordAt.{password_at}
 use Rattle.script.specs.LineLaws.{pending-long, pending-short}
 use Rattle.script.proofs.serving.serve_pending.Goals as goal

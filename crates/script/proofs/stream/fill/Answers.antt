@@ -1,10 +1,6 @@
-use Prim.Native.Nat.{◌-◌}
-use Rattle.std.proofs.Common.{sym, arith, rules}
-use Rattle.std.proofs.Math.Path.{◌∙◌}
-use Rattle.std.specs.Prelude.{length}
+use Rattle.std.proofs.Common.{arith}
 use Rattle.window.specs.PasswordAt.{password_at}
-use Rattle.script.specs.Script.{stage_in}
-use Rattle.script.specs.FillLaws.{Filling, filling_begin, filling_open, filling_more, filling_used, piece_left}
+use Rattle.script.specs.FillLaws.{filling_begin, filling_open, filling_more, filling_used, piece_left}
 use Rattle.script.proofs.stream.fill.Goals as goal
 
 pub loop-at-init : goal.loop-at-init

@@ -1,4 +1,4 @@
-use Rattle.std.proofs.Common.{arith, rules}
+use Rattle.std.proofs.Common.{arith}
 use Rattle.window.specs.PasswordAt.{password_at}
 use Rattle.script.specs.Script.{stage_in}
 use Rattle.script.specs.LineLaws.{end_none, end_line}

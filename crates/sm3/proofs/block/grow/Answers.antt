@@ -1,4 +1,3 @@
-use Rattle.std.proofs.Common.{rules}
 use Rattle.sm3.proofs.block.grow.Goals as goal
 
 pub returns : goal.returns

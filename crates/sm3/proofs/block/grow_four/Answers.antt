@@ -1,4 +1,3 @@
-use Rattle.std.proofs.Common.{rules}
 use Rattle.sm3.specs.Sm3Laws.{four-grown, four-past}
 use Rattle.sm3.proofs.block.grow_four.Goals as goal
 

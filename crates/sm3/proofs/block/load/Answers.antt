@@ -1,4 +1,4 @@
-use Rattle.std.proofs.Common.{◌≡◌, ◌-◌, ◌≤◌, length, take, refl, arith, length-set, rules}
+use Rattle.std.proofs.Common.{◌≡◌, refl, arith, length-set, rules}
 use Rattle.sm3.specs.Sm3.{words_at}
 use Rattle.sm3.specs.Sm3Laws.{load_more}
 use Rattle.sm3.proofs.block.load.Goals as goal

@@ -1,6 +1,5 @@
-use Rattle.std.proofs.Common.{◌≡◌, ◌-◌, ◌≤◌, length, take, refl, arith, length-set, rules}
+use Rattle.std.proofs.Common.{◌≡◌, ◌-◌, ◌≤◌, length, take}
 use Rattle.sm3.specs.Sm3.{words_at}
-use Rattle.sm3.specs.Sm3Laws.{load_more}
 use Rattle.sm3.proofs.block.load.Given as goal
 
 abbrev pub invariant-loop-j : goal.invariant-loop-j

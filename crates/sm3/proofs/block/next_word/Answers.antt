@@ -1,4 +1,3 @@
-use Rattle.std.proofs.Common.{rules}
 use Rattle.sm3.specs.Sm3.{next_word}
 use Rattle.sm3.proofs.block.next_word.Goals as goal
 

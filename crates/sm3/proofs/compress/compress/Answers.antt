@@ -1,4 +1,4 @@
-use Rattle.std.proofs.Common.{◌∙◌, rules}
+use Rattle.std.proofs.Common.{◌∙◌}
 use Rattle.sm3.specs.Sm3Laws.{compress_of, reached_on}
 use Rattle.sm3.proofs.compress.compress.Goals as goal
 

@@ -1,4 +1,4 @@
-use Rattle.std.proofs.Common.{◌≡◌, ◌-◌, ◌≤◌, refl, ◌∙◌, add-one, arith, rules}
+use Rattle.std.proofs.Common.{◌≡◌, refl, ◌∙◌, add-one, arith, rules}
 use Rattle.sm3.specs.Sm3.{iterated}
 use Rattle.sm3.proofs.compress.iterate.Goals as goal
 

@@ -1,5 +1,4 @@
-use Rattle.std.proofs.Common.{◌≡◌, ◌+◌, ◌-◌, ◌%◌, ◌≤◌, refl, ◌∙◌, arith, rules}
-use Rattle.sm3.specs.Rounds.{Reached}
+use Rattle.std.proofs.Common.{◌≡◌, ◌+◌, refl, ◌∙◌, arith, rules}
 use Rattle.sm3.specs.Sm3Laws.{reached-none, reached_more, reached-length}
 use Rattle.sm3.proofs.compress.late_rounds.Goals as goal
 

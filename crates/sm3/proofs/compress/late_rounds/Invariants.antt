@@ -1,6 +1,5 @@
-use Rattle.std.proofs.Common.{◌≡◌, ◌+◌, ◌-◌, ◌%◌, ◌≤◌, refl, ◌∙◌, arith, rules}
+use Rattle.std.proofs.Common.{◌≡◌, ◌-◌, ◌%◌, ◌≤◌}
 use Rattle.sm3.specs.Rounds.{Reached}
-use Rattle.sm3.specs.Sm3Laws.{reached-none, reached_more, reached-length}
 use Rattle.sm3.proofs.compress.late_rounds.Given as goal
 
 abbrev pub invariant-loop-i : goal.invariant-loop-i

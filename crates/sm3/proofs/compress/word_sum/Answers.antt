@@ -1,4 +1,3 @@
-use Rattle.std.proofs.Common.{rules}
 use Rattle.sm3.specs.Sm3Laws.{total_of}
 use Rattle.sm3.proofs.compress.word_sum.Goals as goal
 

@@ -1,4 +1,3 @@
-use Rattle.std.proofs.Common.{rules}
 use Rattle.sm3.specs.JoinedLaws.{join_of}
 use Rattle.sm3.proofs.joined.join.Goals as goal
 

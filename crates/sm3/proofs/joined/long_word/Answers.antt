@@ -1,4 +1,3 @@
-use Rattle.std.proofs.Common.{rules}
 use Rattle.sm3.specs.JoinedLaws.{rest-length, long_hash}
 use Rattle.sm3.proofs.joined.long_word.Goals as goal
 

@@ -1,4 +1,4 @@
-use Rattle.std.proofs.Common.{◌+◌, length, arith, rules}
+use Rattle.std.proofs.Common.{◌+◌, length, arith}
 use Rattle.sm3.specs.JoinedLaws.{zeros_behind, short_hash}
 use Rattle.sm3.specs.Sm3Laws.{padded-fits}
 use Rattle.sm3.proofs.joined.short_word.Goals as goal

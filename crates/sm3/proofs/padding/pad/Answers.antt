@@ -1,4 +1,4 @@
-use Rattle.std.proofs.Common.{ℕ, ◌+◌, ◌/◌, ap, ◌∙◌, arith, length-set, rules}
+use Rattle.std.proofs.Common.{ℕ, ◌+◌, ◌/◌, ap, arith, length-set}
 use Rattle.sm3.specs.Sm3Laws.{padded-fits, padded_in_place}
 use Rattle.sm3.specs.PaddingLaws.{last_blocks_fill}
 use Rattle.sm3.proofs.padding.pad.Goals as goal

@@ -1,4 +1,4 @@
-use Rattle.std.proofs.Common.{length, ap, ◌∙◌, arith, length-set, rules}
+use Rattle.std.proofs.Common.{length, ap, arith, length-set}
 use Rattle.sm3.specs.PaddingLaws.{last_blocks_fit, last_blocks_fill, end_of}
 use Rattle.sm3.proofs.padding.put_tail.Goals as goal
 

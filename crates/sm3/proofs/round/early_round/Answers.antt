@@ -1,4 +1,4 @@
-use Rattle.std.proofs.Common.{◌∙◌, arith, rules}
+use Rattle.std.proofs.Common.{◌∙◌, arith}
 use Rattle.sm3.specs.Sm3Laws.{ff_early, gg_early, round_of, table-length}
 use Rattle.sm3.proofs.round.early_round.Goals as goal
 

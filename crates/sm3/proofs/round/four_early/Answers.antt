@@ -1,4 +1,3 @@
-use Rattle.std.proofs.Common.{rules}
 use Rattle.sm3.proofs.round.four_early.Goals as goal
 
 pub returns : goal.returns

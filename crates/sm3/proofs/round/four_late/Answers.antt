@@ -1,4 +1,4 @@
-use Rattle.std.proofs.Common.{arith, rules}
+use Rattle.std.proofs.Common.{arith}
 use Rattle.sm3.proofs.round.four_late.Goals as goal
 
 pub late_round-r1-requires : goal.late_round-r1-requires

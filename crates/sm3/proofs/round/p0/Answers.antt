@@ -1,4 +1,4 @@
-use Rattle.std.proofs.Common.{arith, rules}
+use Rattle.std.proofs.Common.{arith}
 use Rattle.sm3.specs.Sm3Laws.{permuted_by_eight}
 use Rattle.sm3.proofs.round.p0.Goals as goal
 

@@ -1,4 +1,3 @@
-use Rattle.std.proofs.Common.{rules}
 use Rattle.sm3.specs.Sm3.{round_with}
 use Rattle.sm3.proofs.round.round_with.Goals as goal
 

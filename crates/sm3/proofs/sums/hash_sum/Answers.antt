@@ -1,4 +1,4 @@
-use Rattle.std.proofs.Common.{ap, ◌∙◌, arith, rules}
+use Rattle.std.proofs.Common.{ap, ◌∙◌, arith}
 use Rattle.sm3.specs.Rounds.{word_total}
 use Rattle.sm3.specs.Sm3Laws.{padded-fits, hash_sum_of}
 use Rattle.sm3.proofs.sums.hash_sum.Goals as goal

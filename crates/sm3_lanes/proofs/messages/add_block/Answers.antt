@@ -1,5 +1,4 @@
-use Rattle.std.proofs.Common.{◌≡◌, ◌-◌, ◌≤◌, length, sym, ◌∙◌, arith, rules}
-use Rattle.sm3_lanes.specs.Lanes.{Added}
+use Rattle.std.proofs.Common.{◌≡◌, sym, ◌∙◌, arith, rules}
 use Rattle.sm3_lanes.specs.MessageLaws.{added_none, added_more}
 use Rattle.sm3_lanes.proofs.messages.add_block.Goals as goal
 

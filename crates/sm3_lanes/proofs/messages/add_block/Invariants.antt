@@ -1,6 +1,5 @@
-use Rattle.std.proofs.Common.{◌≡◌, ◌-◌, ◌≤◌, length, sym, ◌∙◌, arith, rules}
+use Rattle.std.proofs.Common.{◌≡◌, ◌-◌, ◌≤◌, length}
 use Rattle.sm3_lanes.specs.Lanes.{Added}
-use Rattle.sm3_lanes.specs.MessageLaws.{added_none, added_more}
 use Rattle.sm3_lanes.proofs.messages.add_block.Given as goal
 
 abbrev pub invariant-loop-j : goal.invariant-loop-j

@@ -1,4 +1,3 @@
-use Rattle.std.proofs.Common.{rules}
 use Rattle.sm3_lanes.specs.MessageLaws.{raised-four}
 use Rattle.sm3_lanes.proofs.messages.add_word.Goals as goal
 

@@ -1,4 +1,3 @@
-use Rattle.std.proofs.Common.{rules}
 use Rattle.sm3_lanes.proofs.messages.grow.Goals as goal
 
 pub returns : goal.returns

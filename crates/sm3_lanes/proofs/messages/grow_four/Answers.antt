@@ -1,4 +1,3 @@
-use Rattle.std.proofs.Common.{rules}
 use Rattle.sm3_lanes.specs.FourLaws.{grew_four}
 use Rattle.sm3_lanes.proofs.messages.grow_four.Goals as goal
 

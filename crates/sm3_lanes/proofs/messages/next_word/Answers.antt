@@ -1,4 +1,3 @@
-use Rattle.std.proofs.Common.{rules}
 use Rattle.sm3_lanes.specs.FourLaws.{next_lane}
 use Rattle.sm3_lanes.proofs.messages.next_word.Goals as goal
 

@@ -1,4 +1,4 @@
-use Rattle.std.proofs.Common.{refl, arith, length-set, rules}
+use Rattle.std.proofs.Common.{refl, arith, length-set}
 use Rattle.sm3_lanes.specs.MessageLaws.{across_four}
 use Rattle.sm3_lanes.proofs.messages.put_four.Goals as goal
 

@@ -1,5 +1,4 @@
-use Rattle.std.proofs.Common.{◌≡◌, ◌-◌, ◌≤◌, length, sym, ◌∙◌, arith, rules}
-use Rattle.sm3_lanes.specs.Lanes.{Part}
+use Rattle.std.proofs.Common.{sym, ◌∙◌, arith, rules}
 use Rattle.sm3_lanes.specs.FourLaws.{part_none, part_more, part-all}
 use Rattle.sm3_lanes.proofs.rounds.early_lanes.Goals as goal
 

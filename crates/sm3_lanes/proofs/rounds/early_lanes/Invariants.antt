@@ -1,6 +1,5 @@
-use Rattle.std.proofs.Common.{◌≡◌, ◌-◌, ◌≤◌, length, sym, ◌∙◌, arith, rules}
+use Rattle.std.proofs.Common.{◌≡◌, ◌-◌, ◌≤◌, length}
 use Rattle.sm3_lanes.specs.Lanes.{Part}
-use Rattle.sm3_lanes.specs.FourLaws.{part_none, part_more, part-all}
 use Rattle.sm3_lanes.proofs.rounds.early_lanes.Given as goal
 
 abbrev pub invariant-loop-l : goal.invariant-loop-l

@@ -1,4 +1,4 @@
-use Rattle.std.proofs.Common.{◌∙◌, arith, rules}
+use Rattle.std.proofs.Common.{◌∙◌, arith}
 use Rattle.sm3.specs.Sm3Laws.{ff_early, gg_early, table-length}
 use Rattle.sm3_lanes.specs.FourLaws.{round_lane}
 use Rattle.sm3_lanes.proofs.rounds.early_round.Goals as goal

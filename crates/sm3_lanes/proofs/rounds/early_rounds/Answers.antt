@@ -1,5 +1,4 @@
-use Rattle.std.proofs.Common.{◌≡◌, ◌-◌, ◌%◌, ◌≤◌, length, sym, ◌∙◌, zero-add, arith, rules}
-use Rattle.sm3_lanes.specs.Lanes.{AllReached}
+use Rattle.std.proofs.Common.{◌≡◌, sym, ◌∙◌, zero-add, arith, rules}
 use Rattle.sm3_lanes.specs.FourLaws.{all_none, all_more}
 use Rattle.sm3_lanes.proofs.rounds.early_rounds.Goals as goal
 

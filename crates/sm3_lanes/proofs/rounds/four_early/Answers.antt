@@ -1,4 +1,4 @@
-use Rattle.std.proofs.Common.{◌∙◌, arith, rules}
+use Rattle.std.proofs.Common.{◌∙◌, arith}
 use Rattle.sm3_lanes.specs.FourLaws.{stepped_of}
 use Rattle.sm3_lanes.proofs.rounds.four_early.Goals as goal
 

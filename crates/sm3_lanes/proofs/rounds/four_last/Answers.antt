@@ -1,4 +1,4 @@
-use Rattle.std.proofs.Common.{arith, rules}
+use Rattle.std.proofs.Common.{arith}
 use Rattle.sm3_lanes.specs.FourLaws.{grew_past, stepped_of}
 use Rattle.sm3_lanes.proofs.rounds.four_last.Goals as goal
 

@@ -1,5 +1,4 @@
-use Rattle.std.proofs.Common.{◌≡◌, ◌+◌, ◌-◌, ◌%◌, ◌≤◌, length, sym, refl, ◌∙◌, arith, rules}
-use Rattle.sm3_lanes.specs.Lanes.{AllReached}
+use Rattle.std.proofs.Common.{◌≡◌, ◌+◌, sym, refl, ◌∙◌, arith, rules}
 use Rattle.sm3_lanes.specs.FourLaws.{all_none, all_more}
 use Rattle.sm3_lanes.proofs.rounds.late_rounds.Goals as goal
 

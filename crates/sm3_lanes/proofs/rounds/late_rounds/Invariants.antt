@@ -1,6 +1,5 @@
-use Rattle.std.proofs.Common.{◌≡◌, ◌+◌, ◌-◌, ◌%◌, ◌≤◌, length, sym, refl, ◌∙◌, arith, rules}
+use Rattle.std.proofs.Common.{◌≡◌, ◌-◌, ◌%◌, ◌≤◌, length}
 use Rattle.sm3_lanes.specs.Lanes.{AllReached}
-use Rattle.sm3_lanes.specs.FourLaws.{all_none, all_more}
 use Rattle.sm3_lanes.proofs.rounds.late_rounds.Given as goal
 
 abbrev pub invariant-loop-i : goal.invariant-loop-i

@@ -1,4 +1,4 @@
-use Rattle.std.proofs.Common.{refl, arith, length-set, rules}
+use Rattle.std.proofs.Common.{refl, arith, length-set}
 use Rattle.sm3_lanes.specs.FourLaws.{put_eight}
 use Rattle.sm3_lanes.proofs.values.put_value.Goals as goal
 

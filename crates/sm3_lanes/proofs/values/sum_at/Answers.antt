@@ -1,4 +1,4 @@
-use Rattle.std.proofs.Common.{◌∙◌, rules}
+use Rattle.std.proofs.Common.{◌∙◌}
 use Rattle.sm3_lanes.proofs.values.sum_at.Goals as goal
 
 pub returns : goal.returns

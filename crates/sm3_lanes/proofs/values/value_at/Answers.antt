@@ -1,4 +1,3 @@
-use Rattle.std.proofs.Common.{rules}
 use Rattle.sm3_lanes.specs.FourLaws.{value-at}
 use Rattle.sm3_lanes.proofs.values.value_at.Goals as goal
 

@@ -1,5 +1,4 @@
 use Rattle.sm4.specs.EncryptLaws.{words-refused, words-done}
-use Rattle.std.proofs.Common.{rules}
 use Rattle.sm4.proofs.chaining.encrypt_words.Goals as goal
 
 pub returns-then-keys-ne32 : goal.returns-then-keys-ne32

@@ -1,6 +1,5 @@
 use Rattle.std.proofs.Math.Path.{◌∙◌}
 use Rattle.sm4.specs.SidesLaws.{first-key-refused, first_block_refused, first_made}
-use Rattle.std.proofs.Common.{rules}
 use Rattle.sm4.proofs.chaining.first_block.Goals as goal
 
 pub returns-then-key-ne16 : goal.returns-then-key-ne16

@@ -1,4 +1,3 @@
-use Rattle.std.proofs.Common.{rules}
 use Rattle.sm4.proofs.chaining.refused_first.Goals as goal
 
 pub returns : goal.returns

@@ -1,5 +1,4 @@
 use Rattle.std.proofs.Math.Path.{◌∙◌}
-use Rattle.std.proofs.Common.{rules}
 use Rattle.sm4.specs.EncryptLaws.{encrypt_refused_keys, encrypt_refused_block, encrypt_done}
 use Rattle.sm4.proofs.encryption.encrypt.Goals as goal
 

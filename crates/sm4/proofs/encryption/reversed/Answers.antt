@@ -1,4 +1,3 @@
-use Rattle.std.proofs.Common.{rules}
 use Rattle.sm4.specs.EncryptLaws.{reversed-stored}
 use Rattle.sm4.proofs.encryption.reversed.Goals as goal
 

@@ -1,4 +1,3 @@
-use Rattle.std.proofs.Common.{rules}
 use Rattle.sm4.specs.Sm4.{linear}
 use Rattle.sm4.specs.EncryptLaws.{four-steps}
 use Rattle.sm4.proofs.round.four_rounds.Goals as goal

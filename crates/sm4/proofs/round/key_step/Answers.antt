@@ -1,4 +1,3 @@
-use Rattle.std.proofs.Common.{rules}
 use Rattle.sm4.specs.Sm4.{step}
 use Rattle.sm4.proofs.round.key_step.Goals as goal
 

@@ -1,4 +1,4 @@
-use Rattle.std.proofs.Common.{rules, arith}
+use Rattle.std.proofs.Common.{arith}
 use Rattle.sm4.specs.Sm4Laws.{linear-by_eights}
 use Rattle.sm4.proofs.round.linear.Goals as goal
 

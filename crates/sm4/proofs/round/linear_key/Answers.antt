@@ -1,4 +1,3 @@
-use Rattle.std.proofs.Common.{rules}
 use Rattle.sm4.specs.Sm4.{linear_key}
 use Rattle.sm4.proofs.round.linear_key.Goals as goal
 

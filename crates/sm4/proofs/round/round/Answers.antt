@@ -1,4 +1,3 @@
-use Rattle.std.proofs.Common.{rules}
 use Rattle.sm4.specs.Sm4.{round}
 use Rattle.sm4.proofs.round.round.Goals as goal
 

@@ -1,7 +1,6 @@
-use Prim.Native.Nat.{◌≤◌, ◌-◌, ◌%◌}
 use Rattle.std.proofs.Math.Path.{◌≡◌}
 use Rattle.std.proofs.Common.{arith, rules}
-use Rattle.sm4.specs.Sm4.{linear, steps}
+use Rattle.sm4.specs.Sm4.{steps}
 use Rattle.sm4.specs.EncryptLaws.{rounds_more}
 use Rattle.sm4.proofs.round.rounds.Goals as goal
 

@@ -1,8 +1,6 @@
 use Prim.Native.Nat.{◌≤◌, ◌-◌, ◌%◌}
 use Rattle.std.proofs.Math.Path.{◌≡◌}
-use Rattle.std.proofs.Common.{arith, rules}
 use Rattle.sm4.specs.Sm4.{linear, steps}
-use Rattle.sm4.specs.EncryptLaws.{rounds_more}
 use Rattle.sm4.proofs.round.rounds.Given as goal
 
 abbrev pub invariant-loop-i : goal.invariant-loop-i

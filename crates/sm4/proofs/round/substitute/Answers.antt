@@ -9,9 +9,6 @@ use Rattle.sm4.proofs.round.substitute.Goals as goal
 pub bounds-table-at : goal.bounds-table-at
 bounds-table-at c = in_table 256 c.args.i c.requires.table_value sbox-length c.requires.i_bound
 
--- LOST cast-result : tie.Need-overflow-cast-result
--- cast-result c = omega (arith, c.shared-slice-known.given c.before.args.i)
-
 pub returns : goal.returns
 unfolding substitute
 returns c = record { value = ap (λ (t : List ℕ). get_or t c.args.i 0) c.requires.table_value; upper_bound = omega (arith, c.shared_slice_known-1.given c.args.i) }

@@ -1,4 +1,4 @@
-use Rattle.std.proofs.Common.{arith, rules}
+use Rattle.std.proofs.Common.{arith}
 use Rattle.sm4.specs.EncryptLaws.{tau-sum}
 use Rattle.sm4.proofs.round.tau.Goals as goal
 

@@ -1,4 +1,3 @@
-use Rattle.std.proofs.Common.{rules}
 use Rattle.sm4.specs.Sm4.{words_of}
 use Rattle.sm4.proofs.round.words_of.Goals as goal
 

@@ -1,9 +1,5 @@
-use Prim.Native.Nat.{◌≤◌, ◌-◌}
-use Rattle.std.proofs.Math.Path.{◌≡◌, ◌∙◌}
+use Rattle.std.proofs.Math.Path.{◌∙◌}
 use Rattle.std.proofs.Common.{sym, arith, rules, length-set}
-use mathlib.Core.List.{◌++◌}
-use Rattle.std.specs.Prelude.{length, take}
-use Rattle.sm4.specs.Sm4.{keys_from}
 use Rattle.sm4.specs.Sm4Laws.{cks-length}
 use Rattle.sm4.specs.EncryptLaws.{in_table, keys_more, keys_end}
 use Rattle.sm4.proofs.schedule.keys_from.Goals as goal

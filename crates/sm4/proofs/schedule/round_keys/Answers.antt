@@ -1,4 +1,3 @@
-use Rattle.std.proofs.Common.{rules}
 use Rattle.sm4.specs.EncryptLaws.{keys_refused_lem, keys_done}
 use Rattle.sm4.proofs.schedule.round_keys.Goals as goal
 

@@ -1,9 +1,6 @@
-use Prim.Native.Nat.{◌≤◌, ◌-◌, ◌%◌}
 use Rattle.std.proofs.Math.Path.{◌≡◌, ◌∙◌}
-use Rattle.std.specs.Prelude.{refl, length, take}
+use Rattle.std.specs.Prelude.{refl, length}
 use Rattle.std.proofs.Common.{sym, ap, rules, arith}
-use mathlib.Core.List.{◌++◌}
-use Rattle.sm4.specs.Sm4.{keys_from}
 use Rattle.sm4.specs.Sm4Laws.{cks-length}
 use Rattle.sm4.specs.EncryptLaws.{keys_end}
 use Rattle.sm4.specs.Sides.{side_steps}

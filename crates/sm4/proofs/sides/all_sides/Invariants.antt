@@ -1,13 +1,9 @@
 use Prim.Native.Nat.{◌≤◌, ◌-◌, ◌%◌}
-use Rattle.std.proofs.Math.Path.{◌≡◌, ◌∙◌}
-use Rattle.std.specs.Prelude.{refl, length, take}
-use Rattle.std.proofs.Common.{sym, ap, rules, arith}
+use Rattle.std.proofs.Math.Path.{◌≡◌}
+use Rattle.std.specs.Prelude.{length, take}
 use mathlib.Core.List.{◌++◌}
 use Rattle.sm4.specs.Sm4.{keys_from}
-use Rattle.sm4.specs.Sm4Laws.{cks-length}
-use Rattle.sm4.specs.EncryptLaws.{keys_end}
 use Rattle.sm4.specs.Sides.{side_steps}
-use Rattle.sm4.specs.SidesLaws.{sides_more, four_keys}
 use Rattle.sm4.proofs.sides.all_sides.Given as goal
 
 abbrev pub invariant-loop-i : goal.invariant-loop-i

@@ -1,4 +1,3 @@
-use Rattle.std.proofs.Common.{rules}
 use Rattle.sm4.specs.SidesLaws.{four_sides}
 use Rattle.sm4.proofs.sides.four_sides.Goals as goal
 

@@ -1,4 +1,4 @@
-use Rattle.std.proofs.Common.{arith, length-set, rules}
+use Rattle.std.proofs.Common.{arith, length-set}
 use Rattle.sm4.proofs.sides.put_keys.Goals as goal
 
 pub bounds-keys-i-2 : goal.bounds-keys-i-2

@@ -1,5 +1,4 @@
 use Rattle.sm4.specs.SidesLaws.{sides_state, sides_keys}
-use Rattle.std.proofs.Common.{rules}
 use Rattle.sm4.proofs.sides.sides_from.Goals as goal
 
 pub returns : goal.returns

@@ -1,4 +1,4 @@
-use Rattle.std.proofs.Common.{ap, rules}
+use Rattle.std.proofs.Common.{ap}
 use Rattle.std.proofs.Math.Path.{◌∙◌}
 use Rattle.sm4.specs.Sm4.{linear, steps, round_keys}
 use Rattle.sm4.proofs.sides.sides_of.Goals as goal

@@ -1,6 +1,5 @@
 use Rattle.std.proofs.Math.Path.{◌∙◌}
 use Rattle.sm4.specs.SidesLaws.{sm4_key-refused, sm4_block_refused, sm4_made}
-use Rattle.std.proofs.Common.{rules}
 use Rattle.sm4.proofs.sides.sm4.Goals as goal
 
 pub returns-then-key-ne16 : goal.returns-then-key-ne16

@@ -1,14 +1,10 @@
-use Rattle.sm4_lanes.specs.Lanes.{side}
 use Rattle.sm4.specs.Sides.{side_steps}
 use Rattle.sm4.specs.SidesLaws.{sides_more, four_keys}
 use Rattle.sm4.specs.EncryptLaws.{keys_end}
 use Rattle.sm4.specs.Sm4Laws.{cks-length}
-use Rattle.sm4.specs.Sm4.{keys_from}
-use Rattle.std.specs.Prelude.{length, take, refl}
+use Rattle.std.specs.Prelude.{length, refl}
 use Rattle.std.proofs.Common.{rules, arith, sym, ap}
-use mathlib.Core.List.{◌++◌}
 use Rattle.std.proofs.Math.Path.{◌≡◌, ◌∙◌}
-use Prim.Native.Nat.{◌≤◌, ◌-◌, ◌%◌}
 use Rattle.sm4_lanes.proofs.first.all_steps.Goals as goal
 
 pub loop-i-init : goal.loop-i-init

@@ -1,6 +1,5 @@
 use Rattle.sm4.specs.SidesLaws.{sides_keys}
 use Rattle.sm4_lanes.specs.LanesLaws.{lane_state}
-use Rattle.std.proofs.Common.{rules}
 use Rattle.sm4_lanes.proofs.first.first_three.Goals as goal
 
 pub returns : goal.returns

@@ -1,4 +1,4 @@
-use Rattle.std.proofs.Common.{ap₂, rules}
+use Rattle.std.proofs.Common.{ap₂}
 use Rattle.std.proofs.Math.Path.{◌∙◌}
 use Rattle.sm4_lanes.specs.Lanes.{side}
 use Rattle.sm4.specs.SidesLaws.{four_sides}

@@ -1,8 +1,5 @@
-use Rattle.sm4.specs.EncryptLaws.{rounds_more}
 use Rattle.sm4.specs.Sm4.{linear, steps}
-use Rattle.std.proofs.Common.{rules, arith}
 use Rattle.std.proofs.Math.Path.{◌≡◌}
-use Rattle.std.specs.Prelude.{refl}
 use Prim.Native.Nat.{◌≤◌, ◌-◌, ◌%◌}
 use Rattle.sm4_lanes.proofs.five.five_blocks.Given as goal
 

@@ -1,7 +1,6 @@
 use Rattle.std.proofs.Math.Path.{◌∙◌}
 use Rattle.sm4.specs.EncryptLaws.{four-steps}
 use Rattle.sm4.specs.Sm4.{linear}
-use Rattle.std.proofs.Common.{rules}
 use Rattle.sm4_lanes.proofs.five.four_rounds.Goals as goal
 
 pub returns : goal.returns

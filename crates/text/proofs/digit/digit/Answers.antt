@@ -1,4 +1,3 @@
-use Rattle.std.proofs.Common.{rules}
 use Rattle.text.specs.Text.{digit_value}
 use Rattle.text.proofs.digit.digit.Goals as goal
 

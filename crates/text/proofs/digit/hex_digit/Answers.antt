@@ -1,4 +1,4 @@
-use Rattle.std.proofs.Common.{rules, le-ltb, lt-ltb}
+use Rattle.std.proofs.Common.{le-ltb, lt-ltb}
 use Rattle.text.proofs.digit.hex_digit.Goals as goal
 
 pub returns-then-x-lt10 : goal.returns-then-x-lt10

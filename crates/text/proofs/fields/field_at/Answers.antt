@@ -1,5 +1,4 @@
 use Rattle.text.specs.FieldLaws.{field_past, field_found}
-use Rattle.std.proofs.Common.{rules}
 use Rattle.text.proofs.fields.field_at.Goals as goal
 
 pub returns-then-line-start : goal.returns-then-line-start

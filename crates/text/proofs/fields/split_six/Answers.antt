@@ -1,5 +1,5 @@
-use Rattle.std.proofs.Common.{◌-◌, arith, rules}
-use Rattle.text.specs.FieldLaws.{Walked, end-bounded, walked_more, split-other, split_done}
+use Rattle.std.proofs.Common.{arith}
+use Rattle.text.specs.FieldLaws.{end-bounded, walked_more, split-other, split_done}
 use Rattle.text.proofs.fields.split_six.Goals as goal
 
 pub overflow_add-start : goal.overflow_add-start

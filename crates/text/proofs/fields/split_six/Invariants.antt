@@ -1,5 +1,5 @@
-use Rattle.std.proofs.Common.{◌-◌, arith, rules}
-use Rattle.text.specs.FieldLaws.{Walked, end-bounded, walked_more, split-other, split_done}
+use Rattle.std.proofs.Common.{◌-◌}
+use Rattle.text.specs.FieldLaws.{Walked}
 use Rattle.text.proofs.fields.split_six.Given as goal
 
 abbrev pub invariant-loop-i : goal.invariant-loop-i

@@ -1,6 +1,4 @@
-use Rattle.std.proofs.Common.{◌≡◌, ◌-◌, ◌≤◌, ◌&&◌, map, length, drop, sym, ◌∙◌, rules}
-use Rattle.text.specs.Text.{digit_value}
-use Rattle.text.specs.Steps.{all_hex}
+use Rattle.std.proofs.Common.{sym, ◌∙◌, rules}
 use Rattle.text.specs.HexLaws.{all-digits_more, all-digits-end}
 use Rattle.text.proofs.hexadecimal.all_digits.Goals as goal
 

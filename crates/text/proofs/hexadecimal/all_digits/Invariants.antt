@@ -1,7 +1,6 @@
-use Rattle.std.proofs.Common.{◌≡◌, ◌-◌, ◌≤◌, ◌&&◌, map, length, drop, sym, ◌∙◌, rules}
+use Rattle.std.proofs.Common.{◌≡◌, ◌-◌, ◌≤◌, ◌&&◌, map, length, drop}
 use Rattle.text.specs.Text.{digit_value}
 use Rattle.text.specs.Steps.{all_hex}
-use Rattle.text.specs.HexLaws.{all-digits_more, all-digits-end}
 use Rattle.text.proofs.hexadecimal.all_digits.Given as goal
 
 abbrev pub invariant-loop-i : goal.invariant-loop-i

@@ -1,5 +1,4 @@
-use Rattle.std.proofs.Common.{◌≡◌, ◌-◌, ◌≤◌, ◌&&◌, drop, sym, ◌∙◌, rules}
-use Rattle.text.specs.Steps.{all_hex}
+use Rattle.std.proofs.Common.{sym, ◌∙◌, rules}
 use Rattle.text.specs.HexLaws.{all_more, all_end}
 use Rattle.text.proofs.hexadecimal.all_hex.Goals as goal
 

@@ -1,6 +1,5 @@
-use Rattle.std.proofs.Common.{◌≡◌, ◌-◌, ◌≤◌, ◌&&◌, drop, sym, ◌∙◌, rules}
+use Rattle.std.proofs.Common.{◌≡◌, ◌-◌, ◌≤◌, ◌&&◌, drop}
 use Rattle.text.specs.Steps.{all_hex}
-use Rattle.text.specs.HexLaws.{all_more, all_end}
 use Rattle.text.proofs.hexadecimal.all_hex.Given as goal
 
 abbrev pub invariant-loop-i : goal.invariant-loop-i

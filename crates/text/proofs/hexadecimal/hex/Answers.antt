@@ -1,5 +1,5 @@
 use Rattle.text.specs.HexLaws.{hex_odd, hex_long, hex_wrong, hex_done}
-use Rattle.std.proofs.Common.{◌∙◌, rules}
+use Rattle.std.proofs.Common.{◌∙◌}
 use Rattle.text.proofs.hexadecimal.hex.Goals as goal
 
 pub returns-then-s-ne0 : goal.returns-then-s-ne0

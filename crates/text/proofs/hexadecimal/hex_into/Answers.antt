@@ -1,5 +1,4 @@
 use Rattle.text.specs.HexLaws.{into_wrong, into_room, into_done}
-use Rattle.std.proofs.Common.{rules}
 use Rattle.text.proofs.hexadecimal.hex_into.Goals as goal
 
 pub returns-then-not-s-n : goal.returns-then-not-s-n

@@ -1,5 +1,4 @@
 use Rattle.text.specs.HexLaws.{digits-padded}
-use Rattle.std.proofs.Common.{rules}
 use Rattle.text.proofs.hexadecimal.padded.Goals as goal
 
 pub returns : goal.returns

@@ -1,5 +1,4 @@
-use Rattle.std.proofs.Common.{◌≡◌, ◌-◌, ◌*◌, ◌≤◌, ◌++◌, length, take, drop, sym, ◌∙◌, length-set, rules}
-use Rattle.text.specs.Steps.{pairs_of}
+use Rattle.std.proofs.Common.{sym, ◌∙◌, length-set, rules}
 use Rattle.text.specs.HexLaws.{pairs_more, pairs_end}
 use Rattle.text.proofs.hexadecimal.pairs_of.Goals as goal
 

@@ -1,6 +1,5 @@
-use Rattle.std.proofs.Common.{◌≡◌, ◌-◌, ◌*◌, ◌≤◌, ◌++◌, length, take, drop, sym, ◌∙◌, length-set, rules}
+use Rattle.std.proofs.Common.{◌≡◌, ◌-◌, ◌*◌, ◌≤◌, ◌++◌, length, take, drop}
 use Rattle.text.specs.Steps.{pairs_of}
-use Rattle.text.specs.HexLaws.{pairs_more, pairs_end}
 use Rattle.text.proofs.hexadecimal.pairs_of.Given as goal
 
 abbrev pub invariant-loop-i : goal.invariant-loop-i

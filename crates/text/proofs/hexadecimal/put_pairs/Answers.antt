@@ -1,5 +1,5 @@
-use Rattle.std.proofs.Common.{◌-◌, rules}
-use Rattle.text.specs.HexLaws.{Putting, putting_none, putting_more, putting_end}
+use Rattle.std.proofs.Common.{rules}
+use Rattle.text.specs.HexLaws.{putting_none, putting_more, putting_end}
 use Rattle.text.proofs.hexadecimal.put_pairs.Goals as goal
 
 pub loop-i-init : goal.loop-i-init

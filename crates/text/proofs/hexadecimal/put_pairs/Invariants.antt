@@ -1,5 +1,5 @@
-use Rattle.std.proofs.Common.{◌-◌, rules}
-use Rattle.text.specs.HexLaws.{Putting, putting_none, putting_more, putting_end}
+use Rattle.std.proofs.Common.{◌-◌}
+use Rattle.text.specs.HexLaws.{Putting}
 use Rattle.text.proofs.hexadecimal.put_pairs.Given as goal
 
 abbrev pub invariant-loop-i : goal.invariant-loop-i

@@ -1,5 +1,4 @@
-use Rattle.std.proofs.Common.{◌≡◌, ◌-◌, ◌≤◌, ◌++◌, map, length, take, drop, sym, ◌∙◌, length-set, rules}
-use Rattle.text.specs.Text.{digit_value}
+use Rattle.std.proofs.Common.{sym, ◌∙◌, length-set, rules}
 use Rattle.text.specs.HexLaws.{values_more, values-end}
 use Rattle.text.proofs.hexadecimal.values_of.Goals as goal
 

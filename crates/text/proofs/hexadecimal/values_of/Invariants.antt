@@ -1,6 +1,5 @@
-use Rattle.std.proofs.Common.{◌≡◌, ◌-◌, ◌≤◌, ◌++◌, map, length, take, drop, sym, ◌∙◌, length-set, rules}
+use Rattle.std.proofs.Common.{◌≡◌, ◌-◌, ◌≤◌, ◌++◌, map, length, take, drop}
 use Rattle.text.specs.Text.{digit_value}
-use Rattle.text.specs.HexLaws.{values_more, values-end}
 use Rattle.text.proofs.hexadecimal.values_of.Given as goal
 
 abbrev pub invariant-loop-i : goal.invariant-loop-i

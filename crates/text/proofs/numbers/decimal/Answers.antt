@@ -1,5 +1,5 @@
 use Rattle.text.specs.DecimalLaws.{decimal_empty, decimal_digits_lem, decimal_zero, decimal_leading}
-use Rattle.std.proofs.Common.{arith, rules}
+use Rattle.std.proofs.Common.{arith}
 use Rattle.text.proofs.numbers.decimal.Goals as goal
 
 pub returns-then-s-eq0 : goal.returns-then-s-eq0

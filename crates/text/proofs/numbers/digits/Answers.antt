@@ -1,6 +1,6 @@
-use Rattle.std.proofs.Common.{◌-◌, length, ap, ◌∙◌, arith, rules}
+use Rattle.std.proofs.Common.{ap, ◌∙◌, arith}
 use Rattle.text.specs.Text.{bounded}
-use Rattle.text.specs.DecimalLaws.{Read, digits-wrong, digit_read, digits_large, digits-small, read_more, digits-end}
+use Rattle.text.specs.DecimalLaws.{digits-wrong, digit_read, digits_large, digits-small, read_more, digits-end}
 use Rattle.text.proofs.numbers.digits.Goals as goal
 
 pub returns-then-not-is_decimal : goal.returns-then-not-is_decimal

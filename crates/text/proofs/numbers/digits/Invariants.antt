@@ -1,6 +1,5 @@
-use Rattle.std.proofs.Common.{◌-◌, length, ap, ◌∙◌, arith, rules}
-use Rattle.text.specs.Text.{bounded}
-use Rattle.text.specs.DecimalLaws.{Read, digits-wrong, digit_read, digits_large, digits-small, read_more, digits-end}
+use Rattle.std.proofs.Common.{◌-◌, length}
+use Rattle.text.specs.DecimalLaws.{Read}
 use Rattle.text.proofs.numbers.digits.Given as goal
 
 abbrev pub invariant-loop-i : goal.invariant-loop-i

@@ -1,5 +1,5 @@
-use Rattle.std.proofs.Common.{◌-◌, length, arith, rules}
-use Rattle.text.specs.DecimalLaws.{ReadAll, read_none, all_room, read-all_more, all_right, some-wrong}
+use Rattle.std.proofs.Common.{arith}
+use Rattle.text.specs.DecimalLaws.{read_none, all_room, read-all_more, all_right, some-wrong}
 use Rattle.text.proofs.numbers.few_digits.Goals as goal
 
 pub loop-i-init : goal.loop-i-init

@@ -1,5 +1,5 @@
-use Rattle.std.proofs.Common.{◌-◌, length, arith, rules}
-use Rattle.text.specs.DecimalLaws.{ReadAll, read_none, all_room, read-all_more, all_right, some-wrong}
+use Rattle.std.proofs.Common.{◌-◌, length}
+use Rattle.text.specs.DecimalLaws.{ReadAll}
 use Rattle.text.proofs.numbers.few_digits.Given as goal
 
 abbrev pub invariant-loop-i : goal.invariant-loop-i

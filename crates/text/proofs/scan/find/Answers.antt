@@ -1,6 +1,5 @@
-use Rattle.std.proofs.Common.{◌≡◌, ◌+◌, ◌-◌, ◌≤◌, sym, refl, ap, ◌∙◌, arith, rules}
+use Rattle.std.proofs.Common.{◌+◌, sym, refl, ap, ◌∙◌, arith, rules}
 use Rattle.std.specs.Int.Count.{trailing_le}
-use Rattle.words.specs.Search.{index_of, slice}
 use Rattle.text.specs.ScanLaws.{some-marked, none-marked}
 use Rattle.text.proofs.scan.find.Goals as goal
 

@@ -1,7 +1,5 @@
-use Rattle.std.proofs.Common.{◌≡◌, ◌+◌, ◌-◌, ◌≤◌, sym, refl, ap, ◌∙◌, arith, rules}
-use Rattle.std.specs.Int.Count.{trailing_le}
+use Rattle.std.proofs.Common.{◌≡◌, ◌+◌, ◌-◌, ◌≤◌}
 use Rattle.words.specs.Search.{index_of, slice}
-use Rattle.text.specs.ScanLaws.{some-marked, none-marked}
 use Rattle.text.proofs.scan.find.Given as goal
 
 abbrev pub invariant-loop-at : goal.invariant-loop-at

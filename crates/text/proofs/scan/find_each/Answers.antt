@@ -1,4 +1,4 @@
-use Rattle.std.proofs.Common.{◌≡◌, ◌+◌, sym, ◌∙◌, arith, rules}
+use Rattle.std.proofs.Common.{sym, ◌∙◌, arith}
 use Rattle.text.specs.ScanLaws.{here_found, here_passed, none_left}
 use Rattle.text.proofs.scan.find_each.Goals as goal
 

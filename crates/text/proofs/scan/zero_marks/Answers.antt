@@ -1,5 +1,4 @@
 use Rattle.text.specs.ScanLaws.{eight_marked}
-use Rattle.std.proofs.Common.{rules}
 use Rattle.text.proofs.scan.zero_marks.Goals as goal
 
 pub returns : goal.returns

@@ -1,4 +1,3 @@
-use Rattle.std.proofs.Common.{rules}
 use Rattle.token.proofs.codes.number_of.Goals as goal
 
 pub returns-in-Refused : goal.returns-in-Refused

@@ -1,4 +1,3 @@
-use Rattle.std.proofs.Common.{rules}
 use Rattle.token.proofs.codes.refusal_number.Goals as goal
 
 pub returns-in-BadMessage : goal.returns-in-BadMessage

@@ -1,4 +1,3 @@
-use Rattle.std.proofs.Common.{rules}
 use Rattle.token.proofs.deciding.changing.Goals as goal
 
 pub returns : goal.returns

@@ -1,6 +1,6 @@
 use Rattle.std.proofs.Math.Path.{◌≡◌, ◌∙◌}
 use Rattle.std.specs.Prelude.{refl}
-use Rattle.std.proofs.Common.{ap, rules}
+use Rattle.std.proofs.Common.{ap}
 use Rattle.window.specs.Window.{Sound}
 use Rattle.window.specs.PasswordAt.{password_at}
 use Rattle.row.specs.declared.Row.{Row}

@@ -1,4 +1,4 @@
-use Rattle.std.proofs.Common.{ap, rules}
+use Rattle.std.proofs.Common.{ap}
 use Rattle.std.proofs.Math.Path.{◌∙◌}
 use Rattle.token.specs.Deciding.{refusing}
 use Rattle.token.proofs.deciding.judging.Goals as goal

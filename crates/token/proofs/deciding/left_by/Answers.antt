@@ -1,4 +1,3 @@
-use Rattle.std.proofs.Common.{rules}
 use Rattle.token.proofs.deciding.left_by.Goals as goal
 
 pub returns-in-Kept : goal.returns-in-Kept

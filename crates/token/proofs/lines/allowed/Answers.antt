@@ -1,4 +1,3 @@
-use Rattle.std.proofs.Common.{rules}
 use Rattle.token.proofs.lines.allowed.Goals as goal
 
 pub returns-in-From : goal.returns-in-From

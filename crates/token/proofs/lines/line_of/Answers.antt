@@ -1,4 +1,3 @@
-use Rattle.std.proofs.Common.{rules}
 use Rattle.token.proofs.lines.line_of.Goals as goal
 
 pub returns-in-Login : goal.returns-in-Login

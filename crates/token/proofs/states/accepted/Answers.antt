@@ -1,5 +1,4 @@
 use Rattle.token.specs.StatesLaws.{accepted-by}
-use Rattle.std.proofs.Common.{rules}
 use Rattle.token.proofs.states.accepted.Goals as goal
 
 pub returns : goal.returns

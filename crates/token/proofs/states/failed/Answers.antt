@@ -1,5 +1,4 @@
 use Rattle.token.specs.StatesLaws.{failed-locks, failed-stays}
-use Rattle.std.proofs.Common.{rules}
 use Rattle.token.proofs.states.failed.Goals as goal
 
 pub returns-then-locks-row : goal.returns-then-locks-row

@@ -1,4 +1,4 @@
-use Rattle.std.proofs.Common.{arith, rules}
+use Rattle.std.proofs.Common.{arith}
 use Rattle.token.specs.StatesLaws.{offset_event, offset-above, offset-fits, offset-time}
 use Rattle.token.proofs.states.offset_after.Goals as goal
 

@@ -1,4 +1,3 @@
-use Rattle.std.proofs.Common.{rules}
 use Rattle.token.proofs.states.repeated.Goals as goal
 
 pub returns-then-forgives : goal.returns-then-forgives

@@ -1,4 +1,3 @@
-use Rattle.std.proofs.Common.{rules}
 use Rattle.token.proofs.states.track_after.Goals as goal
 
 pub returns : goal.returns

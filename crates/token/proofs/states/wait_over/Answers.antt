@@ -1,5 +1,4 @@
 use Rattle.token.specs.StatesLaws.{wait-elsewhere, wait-before, wait-counted}
-use Rattle.std.proofs.Common.{rules}
 use Rattle.token.proofs.states.wait_over.Goals as goal
 
 pub returns-then-row-ne-LOCKED_BY_ERRORS : goal.returns-then-row-ne-LOCKED_BY_ERRORS

@@ -1,5 +1,4 @@
 use Rattle.token.specs.StatesLaws.{waited-out, waited_on}
-use Rattle.std.proofs.Common.{rules}
 use Rattle.token.proofs.states.waited.Goals as goal
 
 pub returns-then-wait_over : goal.returns-then-wait_over

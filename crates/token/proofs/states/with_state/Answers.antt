@@ -1,5 +1,4 @@
 use Rattle.token.specs.StatesLaws.{with_state_lem}
-use Rattle.std.proofs.Common.{rules}
 use Rattle.token.proofs.states.with_state.Goals as goal
 
 pub returns : goal.returns

@@ -1,4 +1,4 @@
-use Rattle.std.proofs.Common.{zero-le, rules}
+use Rattle.std.proofs.Common.{zero-le}
 use Rattle.window.specs.PasswordAtLaws.{range-fits}
 use Rattle.window.specs.GoalLaws.{single-modulus, pair-modulus}
 use Rattle.window.specs.AskedLaws.{check_miscounted, counted, check_one, check_challenged, check_two}

@@ -1,4 +1,3 @@
-use Rattle.std.proofs.Common.{rules}
 use Rattle.window.proofs.checks.counts_right.Goals as goal
 
 pub returns-in-One : goal.returns-in-One

@@ -1,4 +1,3 @@
-use Rattle.std.proofs.Common.{rules}
 use Rattle.window.proofs.goal.digits_of.Goals as goal
 
 pub returns-then-modulus-eq1000000 : goal.returns-then-modulus-eq1000000

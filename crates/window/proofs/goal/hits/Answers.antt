@@ -1,4 +1,4 @@
-use Rattle.std.proofs.Common.{sym, rules}
+use Rattle.std.proofs.Common.{sym}
 use Rattle.std.proofs.Math.Path.{◌∙◌}
 use Rattle.window.specs.GoalLaws.{hits-other, hits-last}
 use Rattle.window.proofs.goal.hits.Goals as goal

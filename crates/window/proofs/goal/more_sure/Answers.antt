@@ -1,4 +1,4 @@
-use Rattle.std.proofs.Common.{arith, rules}
+use Rattle.std.proofs.Common.{arith}
 use Rattle.window.proofs.goal.more_sure.Goals as goal
 
 pub returns-then-left-digits_of : goal.returns-then-left-digits_of

@@ -1,6 +1,6 @@
 use Rattle.window.specs.Goal.{single_goal}
 use Rattle.window.specs.GoalLaws.{ten_above}
-use Rattle.std.proofs.Common.{arith, rules}
+use Rattle.std.proofs.Common.{arith}
 use Rattle.window.proofs.goal.single_goal.Goals as goal
 
 pub nonzero_rem-result : goal.nonzero_rem-result

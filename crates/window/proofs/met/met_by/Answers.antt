@@ -1,5 +1,4 @@
 use Rattle.std.proofs.lemmas.Bool.{not-true, not-false}
-use Rattle.std.proofs.Common.{rules}
 use Rattle.window.proofs.met.met_by.Goals as goal
 
 pub returns-then-not-hit : goal.returns-then-not-hit

@@ -1,4 +1,4 @@
-use Rattle.std.proofs.Common.{le-leb, lt-ltb, le-ltb, rules}
+use Rattle.std.proofs.Common.{le-leb, lt-ltb, le-ltb}
 use Rattle.std.proofs.lemmas.Bool.{lt-leb}
 use Rattle.window.proofs.met.met_outcome.Goals as goal
 

@@ -1,6 +1,5 @@
 use Rattle.std.proofs.Math.Nat.{div-le_self, lt_of_le_of_lt}
 use borrow.Author.Tests.{eq-eqb, ne_eqb}
-use Rattle.std.proofs.Common.{rules}
 use Rattle.window.specs.Range.{first_step, end_step}
 use Rattle.window.proofs.range.candidates.Goals as goal
 

@@ -1,4 +1,3 @@
-use Rattle.std.proofs.Common.{rules}
 use Rattle.window.proofs.range.step_at.Goals as goal
 
 pub returns-then-period-eq30 : goal.returns-then-period-eq30

@@ -1,8 +1,8 @@
-use Rattle.otp.specs.CutLists.{step_cut, Ready}
+use Rattle.otp.specs.CutLists.{step_cut}
 use Rattle.window.specs.StandLaws.{stand-begun, sure_some, still_inside, some-candidate, some_left, here-made, made_less, looked_less, stand-met}
-use Rattle.window.specs.SweepLaws.{more_stand, place_hit, told-begun, told-next, Sweeping, swept-made, more_fits, first-put, more_put, cut-read}
+use Rattle.window.specs.SweepLaws.{more_stand, place_hit, told-begun, told-next, swept-made, more_fits, first-put, more_put, cut-read}
 use Rattle.window.specs.WindowLaws.{first_small, candidates_few}
-use Prim.Native.Nat.{ℕ, ◌+◌, ◌-◌, ◌<◌}
+use Prim.Native.Nat.{ℕ, ◌+◌, ◌-◌}
 use Rattle.std.specs.Prelude.{replicate}
 use Rattle.std.proofs.Common.{sym, arith, rules}
 use Rattle.std.proofs.Math.Path.{◌∙◌}
@@ -47,16 +47,6 @@ overflow_sub-end c =
 pub more_sure-more-requires : goal.more_sure-more-requires
 more_sure-more-requires c =
     c.requires.modulus_nonzero
-
--- LOST part-cuts-end-2 : tie.Need-slice-bounds-cuts-end-2 invariant-loop decreases-loop
--- part-cuts-end-2 c =
---     let args = c.before.before.before.before.before.before.before.before.before.before.before.before.before.before.before.before.before.before.before.before.args in
---     let loop = c.before.before.before.before.before.before.loop in
---     let if1 = c.before.before.before.if1 in
---     let inv = loop.invariant.0 in
---     let x = cut-read _ _ _ _ loop.i inv.are (here-made inv.stand if1.false c.before.before.if2.true) in
---     let stand = more_stand _ _ _ args.goal _ inv.stand if1.false c.before.before.if2.true x c.before.more-sure.ensures in
---     omega (arith, stand.most, stand.few, inv.room)
 
 pub put_cuts-requires : goal.put_cuts-requires
 put_cuts-requires c = let stand = c.loop-i.invariant.0.stand in

@@ -1,8 +1,7 @@
-use Prim.Native.Nat.{◌+◌, ◌*◌, ◌≤◌, ◌<◌, ◌-◌, ◌^◌}
+use Prim.Native.Nat.{◌+◌, ◌*◌, ◌<◌, ◌^◌}
 use Rattle.std.proofs.Math.Path.{◌≡◌}
 use Rattle.std.specs.Prelude.{refl}
 use Rattle.std.proofs.Common.{rules, arith, add-zero, add-one}
-use Rattle.std.proofs.Math.ListN.{get_or}
 use Rattle.words.specs.Bytes.{be_at}
 use Rattle.words.specs.BytesLaws.{byte_more, eight_fit}
 use Rattle.words.proofs.bytes.be_at.Goals as goal

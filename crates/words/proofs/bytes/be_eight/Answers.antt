@@ -1,4 +1,4 @@
-use Rattle.std.proofs.Common.{ap, rules}
+use Rattle.std.proofs.Common.{ap}
 use Rattle.std.proofs.Math.Path.{◌∙◌}
 use Rattle.words.specs.Bytes.{swap_bytes}
 use Rattle.words.specs.SwapLaws.{swap_le}

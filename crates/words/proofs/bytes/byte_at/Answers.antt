@@ -1,5 +1,5 @@
 use Rattle.std.specs.Prelude.{refl}
-use Rattle.std.proofs.Common.{arith, rules}
+use Rattle.std.proofs.Common.{arith}
 use Rattle.words.proofs.bytes.byte_at.Goals as goal
 
 pub overflow_cast-result : goal.overflow_cast-result

@@ -1,9 +1,5 @@
-use Prim.Native.Nat.{◌≤◌, ◌-◌}
-use Rattle.std.proofs.Math.Path.{◌≡◌, ◌∙◌}
+use Rattle.std.proofs.Math.Path.{◌∙◌}
 use Rattle.std.proofs.Common.{sym, rules}
-use Rattle.std.proofs.Math.Bool.{◌&&◌}
-use Rattle.std.specs.Prelude.{length, drop}
-use Rattle.words.specs.Lists.{all_zero}
 use Rattle.words.specs.ListsLaws.{zero_more, zero-end}
 use Rattle.words.proofs.bytes.each_zero.Goals as goal
 

@@ -1,5 +1,4 @@
 use Rattle.words.specs.SwapLaws.{two_fours}
-use Rattle.std.proofs.Common.{rules}
 use Rattle.words.proofs.bytes.le_eight.Goals as goal
 
 pub returns : goal.returns

@@ -1,9 +1,6 @@
-use Prim.Native.Nat.{◌≤◌}
-use Rattle.std.proofs.Math.Path.{◌≡◌, ◌∙◌}
+use Rattle.std.proofs.Math.Path.{◌∙◌}
 use Rattle.std.proofs.Common.{sym, length-set, rules}
-use Rattle.std.specs.Prelude.{length}
 use Rattle.words.specs.BytesLaws.{put_be-last, put_be-none}
-use Rattle.words.specs.Bytes.{put_be}
 use Rattle.words.proofs.bytes.put_be.Goals as goal
 
 pub loop-left-preserved : goal.loop-left-preserved

@@ -1,10 +1,8 @@
 use Prim.Native.Nat.{◌≤◌, ◌-◌}
-use Rattle.std.proofs.Math.Path.{◌≡◌, ◌∙◌}
-use Rattle.std.proofs.Common.{sym, rules}
+use Rattle.std.proofs.Math.Path.{◌≡◌}
 use Rattle.std.proofs.Math.Bool.{◌&&◌}
 use Rattle.std.specs.Prelude.{length, drop}
 use Rattle.words.specs.Lists.{same_bytes}
-use Rattle.words.specs.ListsLaws.{same_lengths, same_more, same_end}
 use Rattle.words.proofs.bytes.same.Given as goal
 
 abbrev pub invariant-loop-i : goal.invariant-loop-i

@@ -1,5 +1,4 @@
 use Rattle.words.specs.SwapLaws.{eight_swapped}
-use Rattle.std.proofs.Common.{rules}
 use Rattle.words.proofs.bytes.swapped.Goals as goal
 
 pub returns : goal.returns

@@ -1,4 +1,4 @@
-use Rattle.std.proofs.Common.{arith, rules}
+use Rattle.std.proofs.Common.{arith}
 use Rattle.std.specs.Prelude.{length}
 use Rattle.words.specs.SwapLaws.{neither_end, zero-ends}
 use Rattle.words.proofs.bytes.zeros.Goals as goal

@@ -1,9 +1,7 @@
 use Prim.Native.Nat.{◌≤◌, ◌-◌}
-use Rattle.std.proofs.Math.Path.{◌≡◌, ◌∙◌}
+use Rattle.std.proofs.Math.Path.{◌≡◌}
 use mathlib.Core.List.{◌++◌}
-use Rattle.std.proofs.Common.{rules, arith, length-append, length-drop, length-take-le}
 use Rattle.std.specs.Prelude.{length, take, drop}
-use Rattle.words.specs.CopyLaws.{copy_more, copy_end}
 use Rattle.words.proofs.word.copy_words.Given as goal
 
 abbrev pub invariant-loop-i : goal.invariant-loop-i

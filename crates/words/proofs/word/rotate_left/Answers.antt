@@ -1,4 +1,4 @@
-use Rattle.std.proofs.Common.{rules, arith}
+use Rattle.std.proofs.Common.{arith}
 use Rattle.words.specs.WordsLaws.{or_rotates}
 use Rattle.words.proofs.word.rotate_left.Goals as goal
 
