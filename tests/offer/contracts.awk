@@ -17,16 +17,14 @@ FNR == 1 {
 }
 { sub(/\/\/.*/, "") }
 
-# The names that a module takes from elsewhere.
-/^(pub(\(crate\))? )?use / {
-    path = $0
-    sub(/^.*use /, "", path)
-    sub(/;$/, "", path)
-    name = path
-    sub(/.*( as |::)/, "", name)
-    sub(/ as .*/, "", path)
-    taken[module, name] = path
-    if (module == "lib" && /^pub use /) handed_on[path] = 1
+# The names that a module takes from elsewhere. A `use` may go over several lines, and name several paths in braces.
+/^(pub(\(crate\))? )?use / { is_use = 1; paths = ""; is_handing_on = module == "lib" && /^pub use / }
+is_use { paths = paths $0 }
+is_use && /; *$/ {
+    is_use = 0
+    sub(/^.*use /, "", paths)
+    sub(/; *$/, "", paths)
+    take("", paths)
 }
 
 /^(pub(\(crate\))? )?(extern "C" )?(fn|const) / {
@@ -42,6 +40,29 @@ FNR == 1 {
 /^(\) .*)?\{$/ { is_body = 1 }
 here != "" && is_body { file[++lines] = FILENAME; owner[lines] = here; text[lines] = $0 }
 is_body && (/^\}/ || /^[^ ].*;$/) { here = ""; is_body = 0 }
+
+# Notes the names that a list of paths takes, each with what stands before the list.
+function take(before, list,   i, c, depth, part, name) {
+    list = list ","
+    for (i = 1; i <= length(list); i++) {
+        c = substr(list, i, 1)
+        if (c == "{") depth++
+        if (c == "}") depth--
+        if (c != "," || depth) { part = part c; continue }
+        gsub(/^ +| +$/, "", part)
+        if (part ~ /}$/) {
+            take(before substr(part, 1, index(part, "{") - 1), substr(part, index(part, "{") + 1, length(part) - index(part, "{") - 1))
+        } else if (part != "") {
+            part = before part
+            name = part
+            sub(/.*( as |::)/, "", name)
+            sub(/ as .*/, "", part)
+            taken[module, name] = part
+            if (is_handing_on) handed_on[part] = 1
+        }
+        part = ""
+    }
+}
 
 # The function or constant of the crate that a path means in a module; nothing where it is of another crate, or no such thing.
 function meant(module, path,   part, n, turns) {
