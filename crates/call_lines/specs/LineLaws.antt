@@ -20,7 +20,7 @@ use Rattle.desk.specs.declared.Particulars.{Particulars}
 use Rattle.desk.specs.Requests.{DeskCall, challenge_call, sync_call, table_ok, challenge_given, request_ok}
 use Rattle.desk.specs.Desk.{Result, result_of, refused, desk_after}
 use Rattle.desk.specs.Reads.{Reads, read_after}
-use Rattle.desk.specs.LoadLaws.{long-key-bad}
+use Rattle.desk.proofs.LoadLaws.{long-key-bad}
 use Rattle.call_lines.specs.declared.Printed.{Printed}
 use Rattle.call_lines.specs.declared.names.Name.{Name}
 use Rattle.call_lines.specs.Line.{count_of, field_of, given, below, number_below, taken, not_made, particulars_of, load_line, challenge_line, sync_line, call_by, fields_read, name_of, call_line, message_word, is_message, message_line, reads_of, code_text, values_text, answer_text, line_after, printed_of, left, line_left}

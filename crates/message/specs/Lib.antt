@@ -7,19 +7,9 @@ pub mod FormTable
 -- how the code reads
 pub mod Walking
 pub mod Lending
-pub mod LendingLaws
-pub mod LayingLaws
-pub mod WritableLaws
-pub mod WriteLaws
 pub mod FrameFacts
 pub mod WalkLaws
 pub mod FrameLaws
 pub mod HeadLaws
 pub mod MacLaws
-pub mod ReadingLaws
--- what is promised
-pub mod ItemsReadLaws
-pub mod ReadLaws
-pub mod ReadCodesLaws
-pub mod ItemsGivenLaws
-pub mod RoundTripLaws
+

@@ -17,12 +17,12 @@ use Rattle.token.specs.Codes.{number_of}
 use Rattle.desk.specs.declared.Particulars.{Particulars}
 use Rattle.desk.specs.Requests.{DeskCall, loaded_row}
 use Rattle.desk.specs.Desk.{desk_after}
-use Rattle.desk.specs.LoadLaws.{loaded-numbers, loaded-key-short}
-use Rattle.desk.specs.BranchLaws.{load-holds}
-use Rattle.desk.specs.RowBytesLaws.{load-laid}
+use Rattle.desk.proofs.LoadLaws.{loaded-numbers, loaded-key-short}
+use Rattle.desk.proofs.BranchLaws.{load-holds}
+use Rattle.desk.proofs.RowBytesLaws.{load-laid}
 use Rattle.desk.specs.Demand1.{at_place}
 use Rattle.desk.specs.Demand1Bytes.{Change, laid, byte, errors, unchanged_codes, wait_run_out, ran_out, one_more, lock_at_limit, accepted_step, besides, left_by, loaded, step_in, press_in}
-use Rattle.desk.specs.Demand1BytesLaws.{demand_1_bytes}
+use Rattle.desk.proofs.Demand1BytesLaws.{demand_1_bytes}
 use Rattle.presses.specs.Presses.{KeyIsBytes}
 
 -- ---- lists of bytes

@@ -33,9 +33,9 @@ use Rattle.token.specs.States.{wait_over, waited}
 use Rattle.token.specs.Deciding.{deciding, decided}
 use Rattle.desk.specs.Requests.{Request, DeskCall, challenge_given, request_ok}
 use Rattle.desk.specs.Desk.{Result, secret_at, stored, served_at, desk_after}
-use Rattle.desk.specs.BranchLaws.{if_single, Judged, Reached, row_now, line_for, Made, named-holds, reached_standing, by_state}
+use Rattle.desk.proofs.BranchLaws.{if_single, Judged, Reached, row_now, line_for, Made, named-holds, reached_standing, by_state}
 use Rattle.desk.specs.Press.{last_has}
-use Rattle.desk.specs.PressLaws.{used_unpressed_now}
+use Rattle.desk.proofs.PressLaws.{used_unpressed_now}
 use Rattle.desk.specs.Demand1.{press_at}
 use Rattle.presses.specs.Presses.{of_row, is_press, PressLeavesReady, idle, finds_locked}
 

@@ -5,7 +5,7 @@ use Rattle.std.proofs.Common.{subst, ◌∙◌, inl, inr, ⊎_elim, zero-add, mu
 use Rattle.std.proofs.Math.Nat.{suc-mul}
 use native.Mathlib.Omega.{arith}
 use Rattle.words.specs.BoolLaws.{by-test, clash, impossible}
-use Rattle.window.specs.CheckLaws.{order}
+use Rattle.window.proofs.CheckLaws.{order}
 use Rattle.row.specs.declared.reading.Place.TheVariants.{At, Nowhere}
 use Rattle.row.specs.Row.{row_bytes}
 use Rattle.row.specs.Table.{is_empty, has_serial, first_row, find_row, find_empty}

@@ -10,7 +10,7 @@ use Rattle.text.specs.Text.{comma, decimal_of}
 use Rattle.window.specs.PasswordAt.{PasswordRule}
 use Rattle.desk.specs.Reads.{Reads, read_after}
 use Rattle.ledger.specs.Ledger.{Entry, table_of}
-use Rattle.ledger.specs.Demand3Laws.{Faithful, start_faithful, start-table, call_step, faithful_step}
+use Rattle.ledger.proofs.Demand3Laws.{Faithful, start_faithful, start-table, call_step, faithful_step}
 use Rattle.call_lines.specs.Line.{reads_of, line_after}
 use Rattle.script.specs.Script.{few_rows, rows_of, is_table, serves, later_line, served, served_all, start, output_of}
 use Rattle.script.specs.LedgerScript.{ledger_answer, ledger_history, ledger_text, ScriptIsLedger}

@@ -9,9 +9,9 @@ use Rattle.window.specs.declared.Outcome.{Outcome}
 use Rattle.window.specs.declared.asked.Asked.{Asked}
 use Rattle.window.specs.Window.{time_token, step_at, farthest, candidate, beyond, Sound}
 use Rattle.window.specs.PasswordAt.{PasswordRule, password_at}
-use Rattle.window.specs.Meaning.{candidate-bounded, candidate-near}
+use Rattle.window.proofs.Meaning.{candidate-bounded, candidate-near}
 use Rattle.window.specs.Asked.{window_size, outcome_of}
-use Rattle.window.specs.AskedLaws.{asked_accepts_candidate}
+use Rattle.window.proofs.AskedLaws.{asked_accepts_candidate}
 use Rattle.row.specs.declared.Row.{Row}
 use Rattle.token.specs.declared.answers.Refusal.{Refusal}
 use Rattle.token.specs.declared.lines.Request.{Request}

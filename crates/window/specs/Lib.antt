@@ -10,13 +10,6 @@ pub mod Asked
 pub mod Goal
 pub mod GoalLaws
 pub mod Sweep
-pub mod CheckLaws
-pub mod ManyLaws
-pub mod StandLaws
-pub mod SweepLaws
-pub mod Meaning
-pub mod Counted
-pub mod AskedLaws
 pub mod WindowTable
 pub mod CountTable
 pub mod StepPasswords

@@ -1,6 +1,6 @@
 use Rattle.std.proofs.Common.{sym}
 use Rattle.std.proofs.Math.Path.{◌∙◌}
-use Rattle.message.specs.ReadingLaws.{item-ordered}
+use Rattle.message.proofs.ReadingLaws.{item-ordered}
 use Rattle.capi.specs.MessageLeftLaws.{item-short, item_refused, item-none, item-done}
 use Rattle.capi.proofs.message_forms.dl_message_item.Goals as goal
 

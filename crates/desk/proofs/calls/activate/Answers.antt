@@ -4,7 +4,7 @@ use Rattle.otp.specs.Password.{challenge_ok}
 use Rattle.otp.specs.TypedLaws.{typed-bad, typed-is}
 use Rattle.token.specs.declared.lines.Request.{Request}
 use Rattle.desk.specs.Requests.{request_ok}
-use Rattle.desk.specs.CallsLaws.{call-unfit, call-served}
+use Rattle.desk.proofs.CallsLaws.{call-unfit, call-served}
 use Rattle.desk.proofs.calls.activate.Goals as goal
 
 pub returns-in_default : goal.returns-in_default

@@ -3,7 +3,7 @@ use Rattle.words.specs.BoolLaws.{and_true, and_false}
 use Rattle.otp.specs.TypedLaws.{typed-bad, typed-is}
 use Rattle.token.specs.declared.lines.Request.{Request}
 use Rattle.desk.specs.Requests.{challenge_given, request_ok}
-use Rattle.desk.specs.CallsLaws.{call-unfit, call-served}
+use Rattle.desk.proofs.CallsLaws.{call-unfit, call-served}
 use Rattle.desk.proofs.calls.challenge_login.Goals as goal
 
 pub returns-in_default : goal.returns-in_default

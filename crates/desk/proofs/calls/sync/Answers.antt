@@ -6,7 +6,7 @@ use Rattle.words.specs.BoolLaws.{and_false}
 use Rattle.otp.specs.Password.{challenge_ok}
 use Rattle.otp.specs.TypedLaws.{typed-bad, typed-is}
 use Rattle.desk.specs.Requests.{request_ok}
-use Rattle.desk.specs.CallsLaws.{call-unfit, call-served}
+use Rattle.desk.proofs.CallsLaws.{call-unfit, call-served}
 use Rattle.desk.proofs.calls.sync.Goals as goal
 
 pub returns-then-not-choice : goal.returns-then-not-choice

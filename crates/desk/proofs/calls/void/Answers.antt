@@ -1,7 +1,7 @@
 use Rattle.std.specs.Prelude.{refl}
 use Rattle.otp.specs.Password.{challenge_ok}
 use Rattle.desk.specs.Requests.{request_ok}
-use Rattle.desk.specs.CallsLaws.{call-served}
+use Rattle.desk.proofs.CallsLaws.{call-served}
 use Rattle.desk.proofs.calls.void.Goals as goal
 
 pub returns : goal.returns

@@ -1,4 +1,4 @@
-use Rattle.desk.specs.LoadLaws.{load-unfit, load_known, load_full, load-made, load-right, loaded-key-short, empty-within-table}
+use Rattle.desk.proofs.LoadLaws.{load-unfit, load_known, load_full, load-made, load-right, loaded-key-short, empty-within-table}
 use Rattle.desk.proofs.loading.load.Goals as goal
 
 pub returns-then-not-table_ok-load_ok : goal.returns-then-not-table_ok-load_ok

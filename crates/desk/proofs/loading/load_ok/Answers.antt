@@ -1,5 +1,5 @@
 use Rattle.std.proofs.Common.{arith}
-use Rattle.desk.specs.LoadLaws.{long-key-bad, load-tested}
+use Rattle.desk.proofs.LoadLaws.{long-key-bad, load-tested}
 use Rattle.desk.proofs.loading.load_ok.Goals as goal
 
 -- the serial's type bounds it

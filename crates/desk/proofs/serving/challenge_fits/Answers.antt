@@ -1,6 +1,6 @@
 use Rattle.std.proofs.Math.Path.{◌∙◌}
 use Rattle.desk.specs.Requests.{challenge_given}
-use Rattle.desk.specs.ServingLaws.{challenge_unasked}
+use Rattle.desk.proofs.ServingLaws.{challenge_unasked}
 use Rattle.desk.proofs.serving.challenge_fits.Goals as goal
 
 pub returns-in_default : goal.returns-in_default

@@ -1,4 +1,4 @@
-use Rattle.desk.specs.ServingLaws.{query-unfit, query-missing, query-told}
+use Rattle.desk.proofs.ServingLaws.{query-unfit, query-missing, query-told}
 use Rattle.desk.proofs.serving.query.Goals as goal
 
 pub returns-then-not-lent_ok : goal.returns-then-not-lent_ok

@@ -1,5 +1,5 @@
 use Rattle.std.proofs.Common.{arith}
-use Rattle.desk.specs.ServingLaws.{serve_unfit, serve_missing, serve_made, row_within, key-within, lent_in_range, clock-lent, challenge-lent}
+use Rattle.desk.proofs.ServingLaws.{serve_unfit, serve_missing, serve_made, row_within, key-within, lent_in_range, clock-lent, challenge-lent}
 use Rattle.desk.proofs.serving.serve.Goals as goal
 
 pub returns-then-not-lent_ok-challenge_fits : goal.returns-then-not-lent_ok-challenge_fits

@@ -2,8 +2,8 @@ use Rattle.std.proofs.Math.Path.{◌∙◌}
 use Rattle.std.proofs.Common.{arith}
 use Rattle.std.specs.Prelude.{length, set}
 use Rattle.message.specs.Writing.{items_as_lent}
-use Rattle.message.specs.LendingLaws.{fit_length, fit_count}
-use Rattle.message.specs.LayingLaws.{length_rest, counted-long, body-laid, body_kept}
+use Rattle.message.proofs.LendingLaws.{fit_length, fit_count}
+use Rattle.message.proofs.LayingLaws.{length_rest, counted-long, body-laid, body_kept}
 use Rattle.message.proofs.laying.lay_body.Goals as goal
 
 pub slice_bounds-lay_items-count : goal.slice_bounds-lay_items-count

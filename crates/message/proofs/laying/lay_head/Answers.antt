@@ -1,7 +1,7 @@
 use Rattle.std.proofs.Common.{arith, length-set}
 use Rattle.words.specs.BytesLaws.{length-put_be}
 use Rattle.message.specs.FrameLaws.{head-long}
-use Rattle.message.specs.LayingLaws.{kind-small, head-laid}
+use Rattle.message.proofs.LayingLaws.{kind-small, head-laid}
 use Rattle.message.proofs.laying.lay_head.Goals as goal
 
 pub overflow_cast-kind : goal.overflow_cast-kind

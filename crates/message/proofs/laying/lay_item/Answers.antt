@@ -1,5 +1,5 @@
 use Rattle.std.proofs.Common.{arith, length-set}
-use Rattle.message.specs.LayingLaws.{length_identified, item_room, item-kept, item-laid}
+use Rattle.message.proofs.LayingLaws.{length_identified, item_room, item-kept, item-laid}
 use Rattle.message.proofs.laying.lay_item.Goals as goal
 
 pub put_be-requires : goal.put_be-requires

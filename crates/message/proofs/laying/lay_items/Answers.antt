@@ -1,6 +1,6 @@
 use Rattle.std.proofs.Common.{sym, arith}
 use Rattle.std.proofs.Math.Path.{◌∙◌}
-use Rattle.message.specs.LayingLaws.{laying_start, laying_end, next-length, next-room, next_requires, laying_on}
+use Rattle.message.proofs.LayingLaws.{laying_start, laying_end, next-length, next-room, next_requires, laying_on}
 use Rattle.message.proofs.laying.lay_items.Goals as goal
 
 pub loop-i-init : goal.loop-i-init

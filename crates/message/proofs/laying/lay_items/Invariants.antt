@@ -1,6 +1,6 @@
 use Prim.Native.Nat.{◌-◌}
 use Rattle.std.specs.Prelude.{length}
-use Rattle.message.specs.LayingLaws.{Laying}
+use Rattle.message.proofs.LayingLaws.{Laying}
 use Rattle.message.proofs.laying.lay_items.Given as goal
 
 abbrev pub invariant-loop-i : goal.invariant-loop-i

@@ -3,7 +3,7 @@ use Rattle.std.specs.Prelude.{refl}
 use Rattle.std.proofs.Common.{sym, arith}
 use Rattle.message.specs.Message.{head_length}
 use Rattle.message.specs.Writing.{items_as_lent}
-use Rattle.message.specs.LayingLaws.{kind-small, lent-room, body-size, head-room, laid-long, laid-plain, laid-sealed}
+use Rattle.message.proofs.LayingLaws.{kind-small, lent-room, body-size, head-room, laid-long, laid-plain, laid-sealed}
 use Rattle.message.proofs.laying.lay_message.Goals as goal
 
 pub overflow_cast-kind : goal.overflow_cast-kind

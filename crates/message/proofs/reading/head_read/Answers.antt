@@ -1,7 +1,7 @@
 use Rattle.std.proofs.Common.{arith}
 use Rattle.message.specs.FrameLaws.{fits-long, fits-short}
 use Rattle.message.specs.HeadLaws.{whole-head}
-use Rattle.message.specs.ReadingLaws.{head-malformed, head_unsealed, head-sealed}
+use Rattle.message.proofs.ReadingLaws.{head-malformed, head_unsealed, head-sealed}
 use Rattle.message.proofs.reading.head_read.Goals as goal
 
 pub returns-in_default : goal.returns-in_default

@@ -1,4 +1,4 @@
-use Rattle.message.specs.ReadingLaws.{whole-read, item_refused, item-placed}
+use Rattle.message.proofs.ReadingLaws.{whole-read, item_refused, item-placed}
 use Rattle.message.proofs.reading.item.Goals as goal
 
 pub place_of-requires : goal.place_of-requires

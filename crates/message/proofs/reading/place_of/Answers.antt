@@ -3,7 +3,7 @@ use Rattle.std.specs.Prelude.{refl}
 use Rattle.std.proofs.Common.{sym, arith}
 use Rattle.std.proofs.Math.Path.{◌∙◌}
 use Rattle.message.specs.HeadLaws.{head-end}
-use Rattle.message.specs.ReadingLaws.{place_none, place_here, walking_on, walking_room}
+use Rattle.message.proofs.ReadingLaws.{place_none, place_here, walking_on, walking_room}
 use Rattle.message.proofs.reading.place_of.Goals as goal
 
 pub loop-left-init : goal.loop-left-init

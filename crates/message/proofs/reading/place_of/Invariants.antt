@@ -1,4 +1,4 @@
-use Rattle.message.specs.ReadingLaws.{Walking}
+use Rattle.message.proofs.ReadingLaws.{Walking}
 use Rattle.message.proofs.reading.place_of.Given as goal
 
 abbrev pub invariant-loop-left : goal.invariant-loop-left

@@ -1,6 +1,6 @@
 use Rattle.std.proofs.Common.{arith}
 use Rattle.message.specs.FrameLaws.{fits-long}
-use Rattle.message.specs.ReadingLaws.{whole-read, reading-refused, body-room, reading-whole}
+use Rattle.message.proofs.ReadingLaws.{whole-read, reading-refused, body-room, reading-whole}
 use Rattle.message.proofs.reading.read_message.Goals as goal
 
 pub overflow_sub-body : goal.overflow_sub-body

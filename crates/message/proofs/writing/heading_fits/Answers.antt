@@ -1,4 +1,4 @@
-use Rattle.message.specs.LendingLaws.{heading_tests}
+use Rattle.message.proofs.LendingLaws.{heading_tests}
 use Rattle.message.proofs.writing.heading_fits.Goals as goal
 
 pub returns : goal.returns

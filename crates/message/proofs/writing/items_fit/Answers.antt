@@ -2,7 +2,7 @@ use Rattle.std.specs.Prelude.{refl}
 use Rattle.std.proofs.Common.{sym, arith}
 use Rattle.std.proofs.Math.Path.{◌∙◌}
 use Rattle.std.proofs.Math.ListN.{get_or}
-use Rattle.message.specs.LendingLaws.{fit-room, fit-end, fit_not, fit_next, fit-counts}
+use Rattle.message.proofs.LendingLaws.{fit-room, fit-end, fit_not, fit_next, fit-counts}
 use Rattle.message.proofs.writing.items_fit.Goals as goal
 
 pub returns-then-identifiers-lengths : goal.returns-then-identifiers-lengths

@@ -1,6 +1,6 @@
 use Prim.Native.Nat.{◌-◌}
 use Rattle.std.specs.Prelude.{length}
-use Rattle.message.specs.LendingLaws.{Fitting}
+use Rattle.message.proofs.LendingLaws.{Fitting}
 use Rattle.message.proofs.writing.items_fit.Given as goal
 
 abbrev pub invariant-loop-i : goal.invariant-loop-i

@@ -4,8 +4,8 @@ use Rattle.words.specs.Lists.{one_of}
 use Rattle.words.specs.BoolLaws.{and_left}
 use Rattle.message.specs.Message.{kinds}
 use Rattle.message.specs.FrameLaws.{head-long}
-use Rattle.message.specs.LayingLaws.{kind-small}
-use Rattle.message.specs.WriteLaws.{refused_early, passed, refused-late, all-passed, part-size, written}
+use Rattle.message.proofs.LayingLaws.{kind-small}
+use Rattle.message.proofs.WriteLaws.{refused_early, passed, refused-late, all-passed, part-size, written}
 use Rattle.message.proofs.writing.write_message.Goals as goal
 
 pub returns-then-not-heading_fits-count : goal.returns-then-not-heading_fits-count

@@ -1,5 +1,5 @@
 use Rattle.std.proofs.Common.{arith}
-use Rattle.message_calls.specs.ItemLaws.{content-none, content-room, content-there}
+use Rattle.message_calls.proofs.ItemLaws.{content-none, content-room, content-there}
 use Rattle.message_calls.proofs.items.content.Goals as goal
 
 pub returns-in_default : goal.returns-in_default

@@ -3,8 +3,8 @@ use Rattle.std.specs.Prelude.{refl}
 use Rattle.std.proofs.Common.{sym, arith}
 use Rattle.std.proofs.Math.Path.{◌∙◌}
 use Rattle.message.specs.HeadLaws.{head-end}
-use Rattle.message_calls.specs.FindingLaws.{part_none, part-here}
-use Rattle.message_calls.specs.ItemLaws.{looking_on, looking_room}
+use Rattle.message_calls.proofs.FindingLaws.{part_none, part-here}
+use Rattle.message_calls.proofs.ItemLaws.{looking_on, looking_room}
 use Rattle.message_calls.proofs.items.find_item.Goals as goal
 
 pub loop-left-init : goal.loop-left-init

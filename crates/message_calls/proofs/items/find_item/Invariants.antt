@@ -1,4 +1,4 @@
-use Rattle.message_calls.specs.ItemLaws.{Looking}
+use Rattle.message_calls.proofs.ItemLaws.{Looking}
 use Rattle.message_calls.proofs.items.find_item.Given as goal
 
 abbrev pub invariant-loop-left : goal.invariant-loop-left

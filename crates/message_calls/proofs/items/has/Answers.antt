@@ -1,4 +1,4 @@
-use Rattle.message_calls.specs.ItemLaws.{has_not, has-item}
+use Rattle.message_calls.proofs.ItemLaws.{has_not, has-item}
 use Rattle.message_calls.proofs.items.has.Goals as goal
 
 pub returns-in_default : goal.returns-in_default

@@ -1,4 +1,4 @@
-use Rattle.message_calls.specs.ItemLaws.{count-other, count_same}
+use Rattle.message_calls.proofs.ItemLaws.{count-other, count_same}
 use Rattle.message_calls.proofs.items.has_only.Goals as goal
 
 pub returns-then-head-count : goal.returns-then-head-count

@@ -1,8 +1,8 @@
 use Rattle.std.specs.Prelude.{refl}
 use Rattle.std.proofs.Math.Path.{◌∙◌}
 use Rattle.message_calls.specs.Serving.{only_these}
-use Rattle.message_calls.specs.OnlyLaws.{only_one, only_two, only_three}
-use Rattle.message_calls.specs.ItemLaws.{no_items}
+use Rattle.message_calls.proofs.OnlyLaws.{only_one, only_two, only_three}
+use Rattle.message_calls.proofs.ItemLaws.{no_items}
 use Rattle.message_calls.proofs.items.items_fit.Goals as goal
 
 pub returns-in-Login : goal.returns-in-Login

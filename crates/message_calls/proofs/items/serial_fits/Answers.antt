@@ -1,4 +1,4 @@
-use Rattle.message_calls.specs.ItemLaws.{serial-judged}
+use Rattle.message_calls.proofs.ItemLaws.{serial-judged}
 use Rattle.message_calls.proofs.items.serial_fits.Goals as goal
 
 pub returns : goal.returns

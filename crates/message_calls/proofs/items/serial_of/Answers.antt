@@ -1,4 +1,4 @@
-use Rattle.message_calls.specs.ItemLaws.{serial-other, serial-read}
+use Rattle.message_calls.proofs.ItemLaws.{serial-other, serial-read}
 use Rattle.message_calls.proofs.items.serial_of.Goals as goal
 
 pub returns-then-serial-ne-SERIAL_BYTES : goal.returns-then-serial-ne-SERIAL_BYTES

@@ -1,4 +1,4 @@
-use Rattle.message_calls.specs.ServingLaws.{judged}
+use Rattle.message_calls.proofs.ServingLaws.{judged}
 use Rattle.message_calls.proofs.serving.misfits.Goals as goal
 
 pub returns : goal.returns

@@ -2,7 +2,7 @@ use Rattle.std.proofs.Common.{arith}
 use Rattle.desk.specs.Reads.{read_after}
 use Rattle.message.specs.HeadLaws.{head-options}
 use Rattle.message_calls.specs.Serving.{call_for}
-use Rattle.message_calls.specs.ServingLaws.{serial-given, sync-options, call-served}
+use Rattle.message_calls.proofs.ServingLaws.{serial-given, sync-options, call-served}
 use Rattle.message_calls.proofs.serving.serve_call.Goals as goal
 
 pub overflow_cast-head : goal.overflow_cast-head

@@ -3,7 +3,7 @@ use Rattle.std.proofs.Common.{arith}
 use Rattle.window.specs.PasswordAt.{password_at}
 use Rattle.message.specs.FrameLaws.{fits-long, fits-short}
 use Rattle.message.specs.HeadLaws.{whole-head}
-use Rattle.message_calls.specs.ServingLaws.{malformed-refused, unfit-refused, fits-call, mac_refused, message-served}
+use Rattle.message_calls.proofs.ServingLaws.{malformed-refused, unfit-refused, fits-call, mac_refused, message-served}
 use Rattle.message_calls.proofs.serving.serve_message.Goals as goal
 
 pub returns-in_default : goal.returns-in_default

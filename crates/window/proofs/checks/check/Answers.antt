@@ -1,7 +1,7 @@
 use Rattle.std.proofs.Common.{zero-le}
 use Rattle.window.specs.PasswordAtLaws.{range-fits}
 use Rattle.window.specs.GoalLaws.{single-modulus, pair-modulus}
-use Rattle.window.specs.AskedLaws.{check_miscounted, counted, check_one, check_challenged, check_two}
+use Rattle.window.proofs.AskedLaws.{check_miscounted, counted, check_one, check_challenged, check_two}
 use Rattle.window.proofs.checks.check.Goals as goal
 
 pub returns-then-not-counts_right : goal.returns-then-not-counts_right

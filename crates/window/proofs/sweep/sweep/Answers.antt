@@ -1,6 +1,6 @@
 use Rattle.otp.specs.CutLists.{step_cut}
-use Rattle.window.specs.StandLaws.{stand-begun, sure_some, still_inside, some-candidate, some_left, here-made, made_less, looked_less, stand-met}
-use Rattle.window.specs.SweepLaws.{more_stand, place_hit, told-begun, told-next, swept-made, more_fits, first-put, more_put, cut-read}
+use Rattle.window.proofs.StandLaws.{stand-begun, sure_some, still_inside, some-candidate, some_left, here-made, made_less, looked_less, stand-met}
+use Rattle.window.proofs.SweepLaws.{more_stand, place_hit, told-begun, told-next, swept-made, more_fits, first-put, more_put, cut-read}
 use Rattle.window.specs.WindowLaws.{first_small, candidates_few}
 use Prim.Native.Nat.{ℕ, ◌+◌, ◌-◌}
 use Rattle.std.specs.Prelude.{replicate}

@@ -1,5 +1,5 @@
 use Rattle.otp.specs.CutLists.{step_cut, Ready}
-use Rattle.window.specs.SweepLaws.{Sweeping}
+use Rattle.window.proofs.SweepLaws.{Sweeping}
 use Prim.Native.Nat.{◌+◌, ◌-◌, ◌<◌}
 use Rattle.window.proofs.sweep.sweep.Given as goal
 

@@ -1,0 +1,22 @@
+-- Theorems and the lemmas behind them.
+pub mod AcceptedLaws
+pub mod AnswerLaws
+pub mod BytesStep
+pub mod CodesLaws
+pub mod ConsistentLaws
+pub mod DecidedLaws
+pub mod Demand3Laws
+pub mod Demand3ReadsLaws
+pub mod HistoryLaws
+pub mod LineLaws
+pub mod LoadsLaws
+pub mod OneTokenLaws
+pub mod OtherRows
+pub mod RangeLaws
+pub mod RenderedLaws
+pub mod RequestLaws
+pub mod ServiceableLaws
+pub mod StandingLaws
+pub mod StepsLaws
+pub mod TokenLaws
+pub mod VoidLaws
