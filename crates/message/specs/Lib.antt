@@ -12,4 +12,3 @@ pub mod WalkLaws
 pub mod FrameLaws
 pub mod HeadLaws
 pub mod MacLaws
-

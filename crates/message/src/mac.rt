@@ -4,8 +4,8 @@ ghost use Rattle.message.specs.Message.{mac_fits};
 ghost use Rattle.message.specs.Walking.{longest};
 
 use crate::frame::{HEAD, MARKED_HEAD, is_marked};
-use sm3::joined::last_word;
-use words::bytes::word_at;
+use sm3::joined::joined_digest;
+use words::bytes::same;
 
 // Whether a marked MAC is the last four bytes of the digest.
 pub fn mac_fits(message: &[u8]) -> bool
@@ -16,5 +16,6 @@ pub fn mac_fits(message: &[u8]) -> bool
     if !is_marked(message[1]) {
         return true;
     }
-    word_at(message, HEAD) == last_word(&message[0..HEAD], &message[MARKED_HEAD..])
+    let digest = joined_digest(&message[0..HEAD], &message[MARKED_HEAD..]);
+    same(&message[HEAD..MARKED_HEAD], &digest[28..32])
 }

@@ -58,12 +58,18 @@ module _ (head body : List ℕ) {all : List ℕ} (put : all ≡ (head ++ body) +
 
   pub short_hash : {blocks : ℕ} {filled : List ℕ} {start last : Registers} → length all ≡ 128 → size < 120 → blocks ≡ size / 64 + last_blocks size
       → filled ≡ padded (take size all) ++ replicate {A = ℕ} (128 - 64 * blocks) 0 → start ≡ iv → last ≡ iterated blocks filled start
-      → be_bytes 4 last.h ≡ drop 28 (sm3_of (head ++ body))
+      → digest last ≡ sm3_of (head ++ body)
   unfolding sm3_of last_value
   short_hash {blocks} {filled} {start} {last} l few b f s e =
       let front : take size all ≡ head ++ body = rw put (take_at (head ++ body) (drop size (replicate 128 0)) size (length-append head body)) in
       let found : last ≡ last_value (head ++ body) = rw front at (hash_sum_of all size l few b f s e) in
-      sym (last-four last) ∙ ap (λ (r : Registers). drop 28 (digest r)) found
+      ap digest found
+
+  pub short_last : {blocks : ℕ} {filled : List ℕ} {start last : Registers} → length all ≡ 128 → size < 120 → blocks ≡ size / 64 + last_blocks size
+      → filled ≡ padded (take size all) ++ replicate {A = ℕ} (128 - 64 * blocks) 0 → start ≡ iv → last ≡ iterated blocks filled start
+      → be_bytes 4 last.h ≡ drop 28 (sm3_of (head ++ body))
+  short_last {blocks} {filled} {start} {last} l few b f s e =
+      sym (last-four last) ∙ ap (λ (d : List ℕ). drop 28 d) (short_hash l few b f s e)
 
 -- others: a block of head and the front of body, then the rest of body
 module _ (head body : List ℕ) (few : length head ≤ 64) (many : 64 ≤ length head + length body) where
@@ -78,9 +84,8 @@ module _ (head body : List ℕ) (few : length head ≤ 64) (many : 64 ≤ length
 
   pub long_hash : {first : List ℕ} {start value : Registers} {d : List ℕ}
       → (let front = take (taken - 0) (drop 0 body) in first ≡ (head ++ front) ++ drop (length head + length front) (replicate 64 0))
-      → start ≡ iv → value ≡ iterated 1 first start → d ≡ digest_from value rest (length head + length body)
-      → {word : ℕ} → word ≡ be_at 4 d 28 → be_bytes 4 word ≡ drop 28 (sm3_of (head ++ body))
-  long_hash {first} {start} {value} {d} f s v e {word} w =
+      → start ≡ iv → value ≡ iterated 1 first start → d ≡ digest_from value rest (length head + length body) → d ≡ sm3_of (head ++ body)
+  long_hash {first} {start} {value} {d} f s v e =
       let m = head ++ body in
       let front = take taken body in
       let room : length head + length front ≡ 64 = rw (length-take-le taken body (omega arith)) (omega arith) in
@@ -94,5 +99,10 @@ module _ (head body : List ℕ) (few : length head ≤ 64) (many : 64 ≤ length
       take_all (length body - taken) (drop taken body) (rw (length-drop taken body) (omega arith))
       ∙ sym (rw place at (drop-append-add head body taken)) in
       let long : 64 * 1 ≤ length m = rw (length-append head body) many in
-      let whole : d ≡ sm3_of m = e ∙ rw (after, behind, ← length-append head body) (digest-from_of m 1 long) in
-      last-read m whole w
+      e ∙ rw (after, behind, ← length-append head body) (digest-from_of m 1 long)
+
+  pub long_last : {first : List ℕ} {start value : Registers} {d : List ℕ}
+      → (let front = take (taken - 0) (drop 0 body) in first ≡ (head ++ front) ++ drop (length head + length front) (replicate 64 0))
+      → start ≡ iv → value ≡ iterated 1 first start → d ≡ digest_from value rest (length head + length body)
+      → {word : ℕ} → word ≡ be_at 4 d 28 → be_bytes 4 word ≡ drop 28 (sm3_of (head ++ body))
+  long_last f s v e w = last-read (head ++ body) (long_hash f s v e) w

@@ -6,6 +6,4 @@ pub returns-then-not-is_marked : goal.returns-then-not-is_marked
 returns-then-not-is_marked c = mac_unmarked _ c.is_marked.ensures c.if-not-is_marked.true-raw
 
 pub returns : goal.returns
-returns c =
-    let message = c.args.message.now in
-    mac_marked message c.is_marked.ensures c.if-not-is_marked.false-raw c.word_at.ensures c.last_word.ensures (omega arith) (λ i. (c.shared_slice_known-1.given i).fits) c.requires.in_bounds
+returns c = mac_marked c.args.message.now c.is_marked.ensures c.if-not-is_marked.false-raw c.joined_digest-digest.ensures c.same.ensures

@@ -1,4 +1,4 @@
-use Rattle.sm3.specs.JoinedLaws.{rest-length, long_hash}
+use Rattle.sm3.specs.JoinedLaws.{rest-length, long_last}
 use Rattle.sm3.proofs.joined.long_word.Goals as goal
 
 pub digest_from-digest-requires : goal.digest_from-digest-requires
@@ -6,4 +6,4 @@ digest_from-digest-requires c = record { len_bound = c.requires.body_len_bound; 
 
 pub returns : goal.returns
 returns c =
-    long_hash c.args.head.now c.args.body.now c.requires.head_len_bound c.requires.in_bounds c.join.ensures c.start.ensures c.iterate.ensures.value_value c.digest_from-digest.ensures c.word_at.ensures
+    long_last c.args.head.now c.args.body.now c.requires.head_len_bound c.requires.in_bounds c.join.ensures c.start.ensures c.iterate.ensures.value_value c.digest_from-digest.ensures c.word_at.ensures

@@ -1,5 +1,5 @@
 use Rattle.std.proofs.Common.{◌+◌, length, arith}
-use Rattle.sm3.specs.JoinedLaws.{zeros_behind, short_hash}
+use Rattle.sm3.specs.JoinedLaws.{zeros_behind, short_last}
 use Rattle.sm3.specs.Sm3Laws.{padded-fits}
 use Rattle.sm3.proofs.joined.short_word.Goals as goal
 
@@ -12,4 +12,4 @@ iterate-requires c = let fits = padded-fits (length c.args.head.now + length c.a
 
 pub returns : goal.returns
 returns c =
-    short_hash c.args.head.now c.args.body.now c.join.ensures c.join.auto.out c.requires c.pad-blocks.ensures.value c.pad-blocks.ensures.m_after c.start.ensures c.iterate.ensures.value_value
+    short_last c.args.head.now c.args.body.now c.join.ensures c.join.auto.out c.requires c.pad-blocks.ensures.value c.pad-blocks.ensures.m_after c.start.ensures c.iterate.ensures.value_value
