@@ -1,6 +1,4 @@
 use Rattle.std.proofs.Common.{◌∙◌, rules}
-use Rattle.std.specs.Prelude.{is_ok, refl}
-use Rattle.lines.specs.BufferLaws.{input-over}
 use Rattle.otp_lines.specs.StreamLaws.{leaves_none, leaves_more}
 use Rattle.otp_lines.proofs.input.answer_pieces.Goals as goal
 
@@ -11,17 +9,16 @@ pub returns-then-is_err-turn-clause-leaves : goal.returns-then-is_err-turn-claus
 returns-then-is_err-turn-clause-leaves g c = leaves_more c.loop.invariant.1.1.1.1 c.answer_next-turn.ensures.follows
 
 pub loop-preserved : goal.loop-preserved
-loop-preserved g c =
+loop-preserved g c = (
+  c.answer_next-turn.auto.line ∙ c.loop.invariant.0,
+  (
+    c.answer_next-turn.auto.piece ∙ c.loop.invariant.1.0,
     (
-      c.answer_next-turn.auto.line ∙ c.loop.invariant.0,
-      (
-        c.answer_next-turn.auto.piece ∙ c.loop.invariant.1.0,
-        (
-          c.answer_next-turn.auto.out ∙ c.loop.invariant.1.1.0,
-          (search rules, leaves_more c.loop.invariant.1.1.1.1 c.answer_next-turn.ensures.follows)
-        )
-      )
-    )
+      c.answer_next-turn.auto.out ∙ c.loop.invariant.1.1.0,
+      (search rules, leaves_more c.loop.invariant.1.1.1.1 c.answer_next-turn.ensures.follows),
+    ),
+  ),
+)
 
 pub returns-clause-leaves : goal.returns-clause-leaves
 returns-clause-leaves g c = c.loop.invariant.1.1.1.1

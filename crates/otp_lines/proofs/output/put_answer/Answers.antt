@@ -1,5 +1,5 @@
 use Rattle.otp_lines.specs.FeedLaws.{printed-length, answer-put}
-use Rattle.std.proofs.Common.{arith, rules}
+use Rattle.std.proofs.Common.{arith}
 use Rattle.otp_lines.proofs.output.put_answer.Goals as goal
 
 pub put-requires : goal.put-requires

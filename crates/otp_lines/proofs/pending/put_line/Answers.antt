@@ -1,6 +1,5 @@
 use Rattle.otp_lines.specs.FeedLaws.{line-begun}
 use mathlib.Core.List.{◌++◌}
-use Rattle.std.proofs.Common.{rules}
 use Rattle.otp_lines.proofs.pending.put_line.Goals as goal
 
 pub returns-then-n-eq0 : goal.returns-then-n-eq0

@@ -1,5 +1,5 @@
 use Rattle.otp_lines.specs.FeedLaws.{pending-long, pending-short}
-use Rattle.std.proofs.Common.{arith, rules}
+use Rattle.std.proofs.Common.{arith}
 use Rattle.otp_lines.proofs.pending.put_pending.Goals as goal
 
 pub returns-then-n-gt-LONGEST : goal.returns-then-n-gt-LONGEST

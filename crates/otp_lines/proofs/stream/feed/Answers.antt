@@ -1,7 +1,7 @@
-use Prim.Native.Nat.{◌-◌, ◌≤◌}
+use Prim.Native.Nat.{◌≤◌}
 use Rattle.std.specs.Prelude.{length}
-use Rattle.otp_lines.specs.FeedLaws.{Feeding, feeding_begin, feeding_line, feeding_end}
-use Rattle.std.proofs.Common.{arith, rules}
+use Rattle.otp_lines.specs.FeedLaws.{feeding_begin, feeding_line, feeding_end}
+use Rattle.std.proofs.Common.{arith}
 use Rattle.otp_lines.proofs.stream.feed.Goals as goal
 
 pub loop-end-init : goal.loop-end-init

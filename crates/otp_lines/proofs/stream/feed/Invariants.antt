@@ -1,7 +1,6 @@
-use Prim.Native.Nat.{◌-◌, ◌≤◌}
+use Prim.Native.Nat.{◌-◌}
 use Rattle.std.specs.Prelude.{length}
-use Rattle.otp_lines.specs.FeedLaws.{Feeding, feeding_begin, feeding_line, feeding_end}
-use Rattle.std.proofs.Common.{arith, rules}
+use Rattle.otp_lines.specs.FeedLaws.{Feeding}
 use Rattle.otp_lines.proofs.stream.feed.Given as goal
 
 abbrev pub invariant-loop-end : goal.invariant-loop-end

@@ -1,5 +1,5 @@
 use Rattle.otp_lines.specs.FeedLaws.{finish_none, finish_line}
-use Rattle.std.proofs.Common.{arith, rules}
+use Rattle.std.proofs.Common.{arith}
 use Rattle.otp_lines.proofs.stream.finish.Goals as goal
 
 pub returns-then-n-eq0 : goal.returns-then-n-eq0
