@@ -240,7 +240,12 @@ pub(crate) fn serve_argument<R: Files + Env + RandomSource + Eprint, I: Read, W:
     let mut name = [0u8; PATH_MAX];
     let n = argument(rt, 1, &mut name).unwrap_or(0);
     let Ok(path) = str::from_utf8(&name[0..n]) else {
-        return not_saved(rt, output, "desk_lines", Error::from(ErrorKind::InvalidFilename));
+        return not_saved(
+            rt,
+            output,
+            "desk_lines",
+            Error::from(ErrorKind::InvalidFilename),
+        );
     };
     let mut answers = match serve_saved(rt, input, path, table) {
         Ok(answers) => answers,
