@@ -16,5 +16,5 @@ returns-in-Err g c =
 pub returns : goal.returns
 returns g c =
     let served = next-served password_at c.read.new.buf c.in-Ok.read (c.read.auto.buf ∙ c.requires.piece_len) c.in-Ok.ensures.bound.0
-        c.serve_piece.ensures.read_value c.serve_piece.ensures.advances in
+    c.serve_piece.ensures.read_value c.serve_piece.ensures.advances in
     record { read_bound = served.0; advances = served.1 }

@@ -1,4 +1,3 @@
-use Rattle.std.proofs.Common.{rules}
 use Rattle.desk_lines.proofs.input.serve_own_table.Goals as goal
 
 -- the front of no rows is no table

@@ -1,11 +1,9 @@
-use Prim.Native.Nat.{◌-◌}
-use Rattle.std.specs.Prelude.{refl, length}
-use Rattle.std.proofs.Common.{sym, arith, rules}
+use Rattle.std.specs.Prelude.{refl}
+use Rattle.std.proofs.Common.{sym, arith}
 use Rattle.std.proofs.Math.Path.{◌∙◌}
 use Rattle.window.specs.PasswordAt.{password_at}
-use Rattle.script.specs.Script.{stage_in}
 use Rattle.script.specs.FillLaws.{piece_left}
-use Rattle.desk_lines.specs.InputLaws.{Serving, serving_begin, serving_more, piece_stopped, piece_done}
+use Rattle.desk_lines.specs.InputLaws.{serving_begin, serving_more, piece_stopped, piece_done}
 use Rattle.desk_lines.proofs.input.serve_piece.Goals as goal
 
 pub loop-at-init : goal.loop-at-init

@@ -1,6 +1,6 @@
 use Rattle.window.specs.PasswordAt.{password_at}
 use Rattle.desk_lines.specs.AdvanceLaws.{leaves_more}
-use Rattle.desk_lines.specs.InputLaws.{Reading, reading_begin, reading_more}
+use Rattle.desk_lines.specs.InputLaws.{reading_begin, reading_more}
 use Rattle.desk_lines.proofs.input.serve_pieces.Goals as goal
 
 pub loop-init : goal.loop-init
