@@ -1,6 +1,7 @@
 // The whole input: read in pieces, and what its lines print written out.
-ghost use Rattle.std.specs.Prelude.{◌≡◌, true, ◌≤◌, length, take, is_ok};
-ghost use Rattle.otp_lines.specs.Stream.{Follows, Leaves, Answers};
+ghost use Rattle.std.specs.Prelude.{◌≡◌, true, ◌≤◌, length, take, is_ok, IfSome, OnOk};
+ghost use Rattle.std.specs.Io.KnownBytes.{Appends, Consumes, IsAtEnd};
+ghost use Rattle.otp_lines.specs.Stream.{output_of, Follows, Leaves, Answers, Passes};
 
 use crate::stream::{feed, finish};
 use std::io;
@@ -35,6 +36,9 @@ fn answer_next<R: Read, W: Write>(
     requires out_len { length out.old ≡ 720896 }
     ensures read_bound { (result.read ≤ 65536) × ((result.n ≤ 257) × (result.written ≤ 720896)) }
     ensures follows { Follows line.old n (take result.read piece.new) line.new result.n (take result.written out.new) }
+    ensures taken { Consumes (R.remaining input.old) (R.remaining input.new) (take result.read piece.new) }
+    ensures end { OnOk result.outcome (result.read ≡ 0 → IsAtEnd (R.remaining input.new)) }
+    ensures written { OnOk result.outcome (Appends (W.contents output.old) (W.contents output.new) (take result.written out.new)) }
 {
     let read = match input.read(piece) {
         Ok(read) => read,
@@ -49,8 +53,9 @@ fn answer_next<R: Read, W: Write>(
     };
     let fed = feed(line, n, &piece[0..read], out);
     let written = fed.written;
+    let outcome = output.write_all(&out[0..written]);
     Turn {
-        outcome: output.write_all(&out[0..written]),
+        outcome,
         read,
         n: fed.n,
         written,
@@ -70,6 +75,8 @@ fn answer_pieces<R: Read, W: Write>(
     requires out_len { length out.old ≡ 720896 }
     ensures read_value { (is_ok result.outcome ≡ true → result.read ≡ 0) × (result.n ≤ 257) }
     ensures leaves { Leaves line.new result.n }
+    ensures passes { OnOk result.outcome (Passes (R.remaining input.old) (R.remaining input.new) (W.contents output.old) (W.contents output.new) line.new result.n) }
+    ensures end { OnOk result.outcome (IsAtEnd (R.remaining input.new)) }
 {
     let mut n = 0;
     // A proved loop has to end, and nothing says that the input does: no run uses up these turns.
@@ -99,7 +106,8 @@ pub(crate) fn answer_input<R: Read, W: Write>(
     requires line_len { length line.old ≡ 256 }
     requires piece_len { length piece.old ≡ 65536 }
     requires out_len { length out.old ≡ 720896 }
-    ensures { Answers (is_ok result.outcome) line.new result.n (take result.written out.new) }
+    ensures answers { Answers (is_ok result.outcome) line.new result.n (take result.written out.new) }
+    ensures output { OnOk result.outcome (IfSome (R.remaining input.old) (λ xs. Appends (W.contents output.old) (W.contents output.new) (output_of xs))) }
 {
     let last = answer_pieces(input, output, line, piece, out);
     // The pending line may not be whole, so it has no answer.
