@@ -1,11 +1,11 @@
 // The table in a file. The answers are kept aside until the new table is on disk under the file's name: a crash leaves the old table or the new one,
 // and no answer is printed whose table is not on disk.
-ghost use Rattle.std.specs.Prelude.{◌≡◌, false, ◌+◌, ◌≤◌, length, is_ok, IfOk};
+ghost use Rattle.std.specs.Prelude.{◌≡◌, false, ◌+◌, ◌≤◌, length, is_ok, IfOk, OnOk};
 ghost use Rattle.std.specs.Str.{IsCharBoundary};
 ghost use Rattle.window.specs.PasswordAt.{password_at};
 ghost use Rattle.script.specs.Sizes.{table_bytes};
 ghost use Rattle.script.specs.Script.{stage_in};
-ghost use Rattle.desk_lines.specs.Input.{ServesInput};
+ghost use Rattle.desk_lines.specs.Input.{ServesInput, ServesAll};
 
 use crate::arguments::{PATH_MAX, argument};
 use crate::input::{Done, serve_input};
@@ -182,7 +182,8 @@ fn serve_file<R: Files + RandomSource, I: Read>(
     requires path_len_bound { length path.now ≤ 4096 }
     requires table_len { length table.old ≡ table_bytes }
     requires rows_bound { rows ≤ 256 }
-    ensures { ServesInput password_at (is_ok result.outcome) (stage_in false rows table.old) (stage_in result.fresh result.rows table.new) }
+    ensures serves_input { ServesInput password_at (is_ok result.outcome) (stage_in false rows table.old) (stage_in result.fresh result.rows table.new) }
+    ensures serves_all { OnOk result.outcome (ServesAll password_at (I.remaining input.old) (R.File.contents answers.old) (R.File.contents answers.new) (stage_in false rows table.old) (stage_in result.fresh result.rows table.new)) }
 {
     let stage = Stage { fresh: false, rows };
     let served = serve_input(input, answers, table, stage);

@@ -1,9 +1,10 @@
 // The whole input: read in pieces, and what its lines print written out.
-ghost use Rattle.std.specs.Prelude.{◌≡◌, true, ◌≤◌, length, take, is_ok};
+ghost use Rattle.std.specs.Prelude.{◌≡◌, true, ◌≤◌, length, take, is_ok, IfSome, OnOk};
+ghost use Rattle.std.specs.Io.KnownBytes.{Appends, Consumes, IsAtEnd};
 ghost use Rattle.window.specs.PasswordAt.{password_at};
 ghost use Rattle.script.specs.Sizes.{table_bytes, Sized};
-ghost use Rattle.script.specs.Script.{start, stage_in};
-ghost use Rattle.desk_lines.specs.Input.{Bounds, Advances, Leaves, ServesInput};
+ghost use Rattle.script.specs.Script.{start, stage_in, output_of};
+ghost use Rattle.desk_lines.specs.Input.{Bounds, Advances, Leaves, ServesInput, Writes, Passes, ServesAll};
 
 use script::serving::Stage;
 use script::sizes::{LONGEST, OUTPUT};
@@ -37,6 +38,7 @@ fn serve_piece<W: Write>(
     requires { Sized line.old table.old out.old n stage.rows }
     ensures read_value { (result.read ≡ length piece.now) × Bounds (is_ok result.outcome) result.read result.used result.n result.rows }
     ensures advances { Advances password_at line.old n (take result.used piece.now) line.new result.n (stage_in stage.fresh stage.rows table.old) (stage_in result.fresh result.rows table.new) }
+    ensures writes { OnOk result.outcome (Writes password_at line.old n piece.now (stage_in stage.fresh stage.rows table.old) (W.contents to.old) (W.contents to.new)) }
 {
     let mut pending = n;
     let mut fresh = stage.fresh;
@@ -87,6 +89,9 @@ fn serve_next<R: Read, W: Write>(
     requires piece_len { length piece.old ≡ 65536 }
     ensures read_bound { (result.read ≤ 65536) × Bounds (is_ok result.outcome) result.read result.used result.n result.rows }
     ensures advances { Advances password_at line.old n (take result.used piece.new) line.new result.n (stage_in stage.fresh stage.rows table.old) (stage_in result.fresh result.rows table.new) }
+    ensures taken { Consumes (R.remaining input.old) (R.remaining input.new) (take result.read piece.new) }
+    ensures end { OnOk result.outcome (result.read ≡ 0 → IsAtEnd (R.remaining input.new)) }
+    ensures writes { OnOk result.outcome (Writes password_at line.old n (take result.read piece.new) (stage_in stage.fresh stage.rows table.old) (W.contents to.old) (W.contents to.new)) }
 {
     let read = match input.read(piece) {
         Ok(read) => read,
@@ -118,6 +123,8 @@ fn serve_pieces<R: Read, W: Write>(
     requires piece_len { length piece.old ≡ 65536 }
     ensures read_value { (is_ok result.outcome ≡ true → result.read ≡ 0) × ((result.n ≤ 4097) × (result.rows ≤ 256)) }
     ensures leaves { Leaves password_at (stage_in stage.fresh stage.rows table.old) line.new result.n (stage_in result.fresh result.rows table.new) }
+    ensures passes { OnOk result.outcome (Passes password_at (R.remaining input.old) (R.remaining input.new) (W.contents to.old) (W.contents to.new) (stage_in stage.fresh stage.rows table.old) line.new result.n (stage_in result.fresh result.rows table.new)) }
+    ensures end { OnOk result.outcome (IsAtEnd (R.remaining input.new)) }
 {
     let mut n = 0;
     let mut fresh = stage.fresh;
@@ -162,6 +169,7 @@ pub(crate) fn serve_input<R: Read, W: Write>(
     requires rows_bound { stage.rows ≤ 256 }
     ensures rows_bound_2 { result.rows ≤ 256 }
     ensures serves_input { ServesInput password_at (is_ok result.outcome) (stage_in stage.fresh stage.rows table.old) (stage_in result.fresh result.rows table.new) }
+    ensures serves_all { OnOk result.outcome (ServesAll password_at (R.remaining input.old) (W.contents to.old) (W.contents to.new) (stage_in stage.fresh stage.rows table.old) (stage_in result.fresh result.rows table.new)) }
 {
     let mut line = [0u8; LONGEST];
     let mut piece = [0u8; PIECE];
@@ -195,7 +203,8 @@ pub(crate) fn serve_own_table<R: Read, W: Write>(
     table: &mut [u8],
 ) -> Done
     requires { length table.old ≡ table_bytes }
-    ensures { ServesInput password_at (is_ok result.outcome) start (stage_in result.fresh result.rows table.new) }
+    ensures serves_input { ServesInput password_at (is_ok result.outcome) start (stage_in result.fresh result.rows table.new) }
+    ensures output { OnOk result.outcome (IfSome (R.remaining input.old) (λ xs. Appends (W.contents to.old) (W.contents to.new) (output_of password_at xs))) }
 {
     let stage = Stage {
         fresh: true,
