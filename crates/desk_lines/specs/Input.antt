@@ -1,5 +1,6 @@
 -- What a turn over a piece of the input does, and what all turns together do.
-use Rattle.std.specs.Prelude.{ℕ, ◌≤◌, ◌≡◌, Bool, true, List, [], ◌++◌}
+use Rattle.std.specs.Prelude.{ℕ, ◌≤◌, ◌≡◌, Bool, true, List, [], ◌++◌, Option, IfSome}
+use Rattle.std.specs.Io.KnownBytes.{Appends, Consumes}
 use Rattle.lines.specs.Lines.{lines_of, cut, Held}
 use Rattle.window.specs.PasswordAt.{PasswordRule}
 use Rattle.script.specs.Script.{Stage, served_all}
@@ -30,3 +31,22 @@ pub record ServesInput (passwords : PasswordRule) (ok : Bool) (stage after : Sta
   pub split : lines_of input ≡ lines ++ rest
   pub all : ok ≡ true → rest ≡ []
   pub staged : after ≡ (served_all passwords lines stage).stage
+
+-- ---- from a reader to a writer, of which `known` and `rest` are the bytes that the one had left before and after, and `old` and `new` those that the other held
+
+-- what the lines print that end in a piece stands behind what the writer held
+pub record Writes (passwords : PasswordRule) (line : List ℕ) (n : ℕ) (piece : List ℕ) (stage : Stage) (old new : Option (List ℕ)) : Type 0 where
+  pub printed : (p : List ℕ) → Held line n p → Appends old new (served_all passwords (cut p piece).whole stage).text
+
+-- the reader gave an input, and its lines were served up to the last line feed in it
+pub record Passes (passwords : PasswordRule) (known rest old new : Option (List ℕ)) (stage : Stage) (line : List ℕ) (n : ℕ) (after : Stage) : Type 0 where
+  pub input : List ℕ
+  pub taken : Consumes known rest input
+  pub pending : Held line n (cut [] input).pending
+  pub printed : Appends old new (served_all passwords (cut [] input).whole stage).text
+  pub staged : after ≡ (served_all passwords (cut [] input).whole stage).stage
+
+-- all lines of what the reader had left were served: what they print stands behind what the writer held, and the stage is the one after them
+abbrev pub ServesAll : PasswordRule → Option (List ℕ) → Option (List ℕ) → Option (List ℕ) → Stage → Stage → Type 0
+ServesAll passwords known old new stage after =
+    IfSome known (λ xs. Appends old new (served_all passwords (lines_of xs) stage).text × (after ≡ (served_all passwords (lines_of xs) stage).stage))

@@ -1,5 +1,5 @@
 -- What the functions over the pieces of the input, and over the whole of it, keep and return.
-use Rattle.std.specs.Prelude.{ℕ, ◌+◌, ◌-◌, ◌≤◌, ◌≡◌, refl, Bool, true, false, ◌||◌, not, List, [], ◌++◌, length, take, drop}
+use Rattle.std.specs.Prelude.{ℕ, ◌+◌, ◌-◌, ◌≤◌, ◌≡◌, refl, Bool, true, false, List, [], ◌++◌, length, take, drop}
 use Rattle.std.proofs.Common.{◌∙◌, append-nil, arith, length-take-le, take-take}
 use Rattle.lines.specs.Lines.{cut, last, Held}
 use Rattle.lines.specs.LinesLaws.{lines_cut}
@@ -13,7 +13,7 @@ use Rattle.desk_lines.specs.Input.{Bounds, Advances, Leaves, ServesInput}
 use Rattle.desk_lines.specs.AdvanceLaws.{follows-advances, advances-none, advances_join, leaves_none, leaves_more}
 
 -- a piece at the front of what it was read into
-front_length : (piece : List ℕ) (read : ℕ) → read ≤ length piece → length (take (read - 0) (drop 0 piece)) ≡ read
+pub front_length : (piece : List ℕ) (read : ℕ) → read ≤ length piece → length (take (read - 0) (drop 0 piece)) ≡ read
 front_length piece read l = let z : read - 0 ≡ read = omega arith in rw z (length-take-le read piece l)
 
 module _ (passwords : PasswordRule) where
@@ -121,17 +121,6 @@ module _ (passwords : PasswordRule) where
       }
 
   -- all lines were served, whatever became of the file then
-  pub input_saved : (saved : Bool) (ok none : Bool) {stage after : Stage} → not ok || none ≡ false → ServesInput passwords ok stage after → ServesInput passwords saved stage after
-  input_saved saved ok none e s =
-      record {
-        input = s.input;
-        lines = s.lines;
-        rest = s.rest;
-        split = s.split;
-        all = λ _. s.all (none-failed ok none e);
-        staged = s.staged;
-      }
-    where
-      none-failed : (ok none : Bool) → not ok || none ≡ false → ok ≡ true
-      none-failed true none e = refl
-      none-failed false none e = clash refl e
+  pub input_saved : (saved ok : Bool) {stage after : Stage} → ok ≡ true → ServesInput passwords ok stage after → ServesInput passwords saved stage after
+  input_saved saved ok e s =
+      record { input = s.input; lines = s.lines; rest = s.rest; split = s.split; all = λ _. s.all e; staged = s.staged }

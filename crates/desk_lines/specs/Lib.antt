@@ -2,3 +2,4 @@
 pub mod Input
 pub mod AdvanceLaws
 pub mod InputLaws
+pub mod PassLaws

@@ -1,104 +1,133 @@
 // The table in a file. The answers are kept aside until the new table is on disk under the file's name: a crash leaves the old table or the new one,
 // and no answer is printed whose table is not on disk.
-ghost use Rattle.std.specs.Prelude.{◌≡◌, false, ◌+◌, ◌≤◌, length};
+ghost use Rattle.std.specs.Prelude.{◌≡◌, false, ◌+◌, ◌≤◌, length, is_ok, IfOk, OnOk};
+ghost use Rattle.std.specs.Str.{IsCharBoundary};
 ghost use Rattle.window.specs.PasswordAt.{password_at};
 ghost use Rattle.script.specs.Sizes.{table_bytes};
 ghost use Rattle.script.specs.Script.{stage_in};
-ghost use Rattle.desk_lines.specs.Input.{ServesInput};
+ghost use Rattle.desk_lines.specs.Input.{ServesInput, ServesAll};
 
+use crate::arguments::{PATH_MAX, argument};
 use crate::input::{Done, serve_input};
-use libc::{PATH_MAX, SEEK_SET, STDOUT_FILENO};
-use lines::put;
+use arrayvec::ArrayString;
 use row::ROW_BYTES;
 use script::serving::Stage;
+use std::env::Env;
+use std::fs::{Files, OpenFile, OpenOptions};
+use std::io::{Error, ErrorKind, Read, Seek, Write};
+use std::os::unix::fs::OpenOptionsExt;
+use std::random::RandomSource;
+use std::{fs, io, str};
 
 // A path, and behind it the letters that make it the name of a new file.
 const NAME: usize = PATH_MAX + 7;
 
-// Whether the file was read, and the rows of its table: none of a file that has no right length.
-#[derive(Clone, Copy)]
-pub(crate) struct Loaded {
-    pub(crate) ok: bool,
-    pub(crate) rows: usize,
-}
-
-// Reads the table.
-fn load(path: &[u8], table: &mut [u8]) -> Loaded
+// Reads the table, and answers how many rows it has: none if the file has no right length.
+fn load<R: Files>(rt: &R, path: &str, table: &mut [u8]) -> io::Result<usize>
     requires { length table.old ≡ table_bytes }
-    ensures { result.rows ≤ 256 }
+    ensures { IfOk result (λ rows. rows ≤ 256) }
 {
-    let fd = os::open_read(path);
-    if fd < 0 {
-        return Loaded { ok: false, rows: 0 };
-    }
-    let len = io::read_full(fd, table);
-    // A read that failed looks like the end: only a further one tells.
+    let mut file = fs::open(rt, path)?;
+    let len = read_full(&mut file, table)?;
     let mut more = [0u8; 1];
-    let got = libc::read(fd, &mut more);
-    libc::close(fd);
-    if got < 0 {
-        return Loaded { ok: false, rows: 0 };
-    }
+    let got = file.read(&mut more)?;
     if (0 < got) | (len % ROW_BYTES != 0) {
-        return Loaded { ok: true, rows: 0 };
+        return Ok(0);
     }
-    Loaded {
-        ok: true,
-        rows: len / ROW_BYTES,
-    }
+    Ok(len / ROW_BYTES)
 }
 
-// A new file that is open for reading and writing, or -1, and how many bytes its name has.
-#[derive(Clone, Copy)]
-pub(crate) struct Made {
-    pub(crate) fd: i32,
-    pub(crate) n: usize,
-}
-
-// Makes a file beside path and puts its name into name.
-fn create_beside(path: &[u8], name: &mut [u8]) -> Made
-    requires { length path.now + 7 ≤ length name.old }
-    ensures { result.n ≤ length name.old }
+// Reads until the table is full or the file ends, and answers how many bytes that are.
+fn read_full<F: Read>(file: &mut F, table: &mut [u8]) -> io::Result<usize>
+    ensures { IfOk result (λ len. len ≤ length table.new) }
 {
-    let end = put(name, 0, path);
-    let n = put(name, end, b".XXXXXX");
-    Made {
-        fd: os::create_temp(&mut name[0..n]),
-        n,
+    let mut len = 0;
+    while len < table.len() {
+        let got = file.read(&mut table[len..])?;
+        if got == 0 {
+            break;
+        }
+        len += got;
     }
+    Ok(len)
 }
 
-// A file for the answers that no folder lists, so that it goes with the program; or -1.
-fn open_answers(path: &[u8]) -> i32
+// A new file that is open for reading and writing, and its name.
+#[derive(Drop)]
+pub(crate) struct Made<F> {
+    pub(crate) file: F,
+    pub(crate) name: ArrayString<NAME>,
+}
+
+// A path with a dot and six letters behind it.
+fn name_beside(path: &str, letters: [u8; 6]) -> ArrayString<NAME>
     requires { length path.now ≤ 4096 }
 {
-    let mut name = [0u8; NAME];
-    let made = create_beside(path, &mut name);
-    if made.fd < 0 {
-        return -1;
+    let mut name = ArrayString::new();
+    name.push_str(path);
+    name.push('.');
+    for letter in letters {
+        name.push(char::from(b'a' + letter % 26));
     }
-    let n = made.n;
-    if os::unlink(&name[0..n]) != 0 {
-        return -1;
+    name
+}
+
+// How many names are tried until one is new.
+const TRIES: usize = 62 * 62 * 62;
+
+// Makes a file beside path, which its owner alone can read.
+fn create_beside<R: Files + RandomSource>(rt: &R, path: &str) -> io::Result<Made<R::File>>
+    requires { length path.now ≤ 4096 }
+{
+    for _ in 0..TRIES {
+        let mut letters = [0u8; 6];
+        rt.fill_bytes(&mut letters)?;
+        let name = name_beside(path, letters);
+        match create_new(rt, name.as_str()) {
+            Ok(file) => return Ok(Made { file, name }),
+            Err(error) => {
+                if error.kind() != ErrorKind::AlreadyExists {
+                    return Err(error);
+                }
+            }
+        }
     }
-    made.fd
+    Err(Error::from(ErrorKind::AlreadyExists))
+}
+
+fn create_new<R: Files>(rt: &R, name: &str) -> io::Result<R::File> {
+    OpenOptions::new()
+        .read(true)
+        .write(true)
+        .create_new(true)
+        .mode(0o600)
+        .open(rt, name)
+}
+
+// A file for the answers that no folder lists, so that it goes with the program.
+fn open_answers<R: Files + RandomSource>(rt: &R, path: &str) -> io::Result<R::File>
+    requires { length path.now ≤ 4096 }
+{
+    let made = create_beside(rt, path)?;
+    fs::remove_file(rt, made.name.as_str())?;
+    Ok(made.file)
 }
 
 // Writes all of the table, and waits until it is on disk.
-fn write_table(fd: i32, table: &[u8]) -> bool {
-    let written = io::write_all(fd, table);
-    let flushed = libc::fsync(fd) == 0;
-    let closed = libc::close(fd) == 0;
-    written & flushed & closed
+fn write_table<F: Write + OpenFile>(file: &mut F, table: &[u8]) -> io::Result<()> {
+    file.write_all(table)?;
+    file.sync_all()
 }
 
 // How many bytes of a path name its folder: those up to the last slash.
-fn folder_length(path: &[u8]) -> usize
-    ensures { result ≤ length path.now }
+fn folder_length(path: &str) -> usize
+    ensures upper_bound { result ≤ length path.now }
+    ensures boundary { IsCharBoundary path.now result }
 {
-    let mut n = path.len();
+    let bytes = path.as_bytes();
+    let mut n = bytes.len();
     while 0 < n {
-        if path[n - 1] == b'/' {
+        if bytes[n - 1] == b'/' {
             break;
         }
         n -= 1;
@@ -107,111 +136,131 @@ fn folder_length(path: &[u8]) -> usize
 }
 
 // Waits until the folder's new entry is on disk.
-fn flush_folder(path: &[u8]) -> bool {
+fn flush_folder<R: Files>(rt: &R, path: &str) -> io::Result<()> {
     let n = folder_length(path);
-    let fd = if n == 0 {
-        os::open_read(b".")
+    let folder = if n == 0 {
+        fs::open(rt, ".")?
     } else {
-        os::open_read(&path[0..n])
+        fs::open(rt, &path[0..n])?
     };
-    if fd < 0 {
-        return false;
-    }
-    let flushed = libc::fsync(fd) == 0;
-    let closed = libc::close(fd) == 0;
-    flushed & closed
+    folder.sync_all()
 }
 
 // Replaces the file whole by a new one with the table.
-fn replace(path: &[u8], table: &[u8]) -> bool
+fn replace<R: Files + RandomSource>(rt: &R, path: &str, table: &[u8]) -> io::Result<()>
     requires { length path.now ≤ 4096 }
 {
-    let mut name = [0u8; NAME];
-    let made = create_beside(path, &mut name);
-    if made.fd < 0 {
-        return false;
+    let mut made = create_beside(rt, path)?;
+    let written = write_table(&mut made.file, table);
+    if written.is_err() {
+        return discard(rt, made.name.as_str(), written);
     }
-    let n = made.n;
-    if !write_table(made.fd, table) {
-        os::unlink(&name[0..n]);
-        return false;
+    let renamed = fs::rename(rt, made.name.as_str(), path);
+    if renamed.is_err() {
+        return discard(rt, made.name.as_str(), renamed);
     }
-    if os::rename(&name[0..n], path) != 0 {
-        os::unlink(&name[0..n]);
-        return false;
-    }
-    flush_folder(path)
+    flush_folder(rt, path)
+}
+
+// Removes a new file that was of no use, and answers why it was not.
+fn discard(rt: &impl Files, name: &str, why: io::Result<()>) -> io::Result<()>
+    ensures { result ≡ why }
+{
+    let _ = fs::remove_file(rt, name);
+    why
 }
 
 // Serves the input on the table that the file held, keeps the answers aside and saves the table.
-fn serve_file(path: &[u8], table: &mut [u8], rows: usize, answers: i32) -> Done
+fn serve_file<R: Files + RandomSource, I: Read>(
+    rt: &R,
+    input: &mut I,
+    path: &str,
+    table: &mut [u8],
+    rows: usize,
+    answers: &mut R::File,
+) -> Done
     requires path_len_bound { length path.now ≤ 4096 }
     requires table_len { length table.old ≡ table_bytes }
     requires rows_bound { rows ≤ 256 }
-    ensures { ServesInput password_at result.ok (stage_in false rows table.old) (stage_in result.fresh result.rows table.new) }
+    ensures serves_input { ServesInput password_at (is_ok result.outcome) (stage_in false rows table.old) (stage_in result.fresh result.rows table.new) }
+    ensures serves_all { OnOk result.outcome (ServesAll password_at (I.remaining input.old) (R.File.contents answers.old) (R.File.contents answers.new) (stage_in false rows table.old) (stage_in result.fresh result.rows table.new)) }
 {
     let stage = Stage { fresh: false, rows };
-    let served = serve_input(answers, table, stage);
+    let served = serve_input(input, answers, table, stage);
     // A file that is no table stays as it is.
-    if !served.ok | (served.rows == 0) {
+    if served.outcome.is_err() | (served.rows == 0) {
         return served;
     }
     let size = ROW_BYTES * served.rows;
     Done {
-        ok: replace(path, &table[0..size]),
+        outcome: replace(rt, path, &table[0..size]),
         fresh: served.fresh,
         rows: served.rows,
     }
 }
 
 // Prints the answers that were kept aside.
-fn print_answers(answers: i32) -> bool {
+fn print_answers<F: Read + Seek, W: Write>(answers: &mut F, output: &mut W) -> io::Result<()> {
     let mut piece = [0u8; PATH_MAX];
-    let mut turns = u64::MAX;
-    if libc::lseek(answers, 0, SEEK_SET) != 0 {
-        return false;
-    }
-    while turns > 0 {
-        let got = libc::read(answers, &mut piece);
-        let count = io::count(got, &piece);
+    answers.rewind()?;
+    for _ in 0..u64::MAX {
+        let count = answers.read(&mut piece)?;
         if count == 0 {
-            return got == 0;
+            return Ok(());
         }
-        if !io::write_all(STDOUT_FILENO, &piece[0..count]) {
-            return false;
-        }
-        turns -= 1;
+        output.write_all(&piece[0..count])?;
     }
-    false
+    Err(Error::from(ErrorKind::TimedOut))
+}
+
+// Serves the input on the table in the file and saves it, and answers the file of the answers.
+fn serve_saved<R: Files + RandomSource, I: Read>(
+    rt: &R,
+    input: &mut I,
+    path: &str,
+    table: &mut [u8],
+) -> io::Result<R::File>
+    requires path_len_bound { length path.now ≤ 4096 }
+    requires table_len { length table.old ≡ table_bytes }
+{
+    let mut answers = open_answers(rt, path)?;
+    let rows = load(rt, path, table)?;
+    serve_file(rt, input, path, table, rows, &mut answers).outcome?;
+    Ok(answers)
 }
 
 // Serves the input on the table in the file that the program's argument names.
-pub(crate) fn serve_argument(table: &mut [u8])
+pub(crate) fn serve_argument<R: Files + Env + RandomSource + Eprint, I: Read, W: Write>(
+    rt: &R,
+    input: &mut I,
+    output: &mut W,
+    table: &mut [u8],
+) -> io::Result<()>
     requires { length table.old ≡ table_bytes }
 {
-    let mut path = [0u8; PATH_MAX];
-    let n = os::arg(1, &mut path);
-    let answers = open_answers(&path[0..n]);
-    if answers < 0 {
-        not_saved(&path[0..n]);
-        return;
-    }
-    let loaded = load(&path[0..n], table);
-    if !loaded.ok {
-        not_saved(&path[0..n]);
-        return;
-    }
-    if !serve_file(&path[0..n], table, loaded.rows, answers).ok {
-        not_saved(&path[0..n]);
-        return;
-    }
-    if !print_answers(answers) {
-        os::fail(b"standard output");
+    let mut name = [0u8; PATH_MAX];
+    let n = argument(rt, 1, &mut name).unwrap_or(0);
+    let Ok(path) = str::from_utf8(&name[0..n]) else {
+        return not_saved(
+            rt,
+            output,
+            "desk_lines",
+            Error::from(ErrorKind::InvalidFilename),
+        );
+    };
+    let mut answers = match serve_saved(rt, input, path, table) {
+        Ok(answers) => answers,
+        Err(error) => return not_saved(rt, output, path, error),
+    };
+    match print_answers(&mut answers, output) {
+        Ok(()) => Ok(()),
+        Err(error) => eprintln!(rt; "standard output: {error}"),
     }
 }
 
 // Tells why, and prints what no answer looks like in the place of all answers.
-fn not_saved(path: &[u8]) {
-    os::fail(path);
-    io::write_all(STDOUT_FILENO, b"not saved\n");
+fn not_saved<W: Write>(rt: &impl Eprint, output: &mut W, path: &str, why: Error) -> io::Result<()> {
+    let told = eprintln!(rt; "{path}: {why}");
+    output.write_all(b"not saved\n")?;
+    told
 }

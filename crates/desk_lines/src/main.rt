@@ -1,24 +1,29 @@
 // Reads calls from standard input, a line each, makes them on one table and prints the answers (docs/DESK-LINES.md).
+#![tactic(auto)]
+
+mod arguments;
 mod file;
 mod input;
 
+use arguments::argument;
 use file::serve_argument;
 use input::serve_own_table;
-use libc::STDERR_FILENO;
 use script::sizes::TABLE;
+use std::io;
 
-fn main() {
-    let count = os::arg_count();
-    if 2 < count {
-        io::write_all(STDERR_FILENO, b"usage: desk_lines [FILE]\n");
-        return;
+fn main(rt: HostRuntime) -> io::Result<()> {
+    let mut none = [0u8; 0];
+    if argument(&rt, 2, &mut none).is_some() {
+        return eprintln!(rt; "usage: desk_lines [FILE]");
     }
+    let mut input = rt.stdin();
+    let mut output = rt.stdout();
     let mut table = [0u8; TABLE];
-    if count == 2 {
-        serve_argument(&mut table);
-        return;
+    if argument(&rt, 1, &mut none).is_some() {
+        return serve_argument(&rt, &mut input, &mut output, &mut table);
     }
-    if !serve_own_table(&mut table).ok {
-        os::fail(b"desk_lines");
+    match serve_own_table(&mut input, &mut output, &mut table).outcome {
+        Ok(()) => Ok(()),
+        Err(error) => eprintln!(rt; "desk_lines: {error}"),
     }
 }

@@ -2,3 +2,4 @@
 pub mod Lines
 pub mod LinesLaws
 pub mod BufferLaws
+pub mod TurnLaws

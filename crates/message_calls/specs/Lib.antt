@@ -4,4 +4,3 @@ pub mod Promise
 pub mod MessageTable
 -- how the code serves
 pub mod Finding
-

@@ -2,3 +2,4 @@
 pub mod Stream
 pub mod StreamLaws
 pub mod FeedLaws
+pub mod PassLaws

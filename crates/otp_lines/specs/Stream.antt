@@ -1,5 +1,6 @@
 -- What the line program prints for its input (document 01, "Line program"), and the same where the input comes in pieces.
-use Rattle.std.specs.Prelude.{ℕ, ◌≡◌, Bool, true}
+use Rattle.std.specs.Prelude.{ℕ, ◌≡◌, Bool, true, Option}
+use Rattle.std.specs.Io.KnownBytes.{Appends, Consumes}
 use mathlib.Core.List.{List, [], ◌∷◌, ◌++◌, map, flatten}
 use Rattle.password_lines.specs.Line.{line_answer}
 use Rattle.lines.specs.Lines.{line_feed, lines_of, cut, last, Held}
@@ -39,3 +40,13 @@ pub record Leaves (line : List ℕ) (n : ℕ) : Type 0 where
 pub record Answers (ok : Bool) (line : List ℕ) (n : ℕ) (text : List ℕ) : Type 0 where
   pub left : Leaves line n
   pub printed : ok ≡ true → text ≡ finished (cut [] left.input).pending
+
+-- ---- from a reader to a writer
+
+-- a reader, of which `known` and `rest` are the bytes that it had left before and after, gave an input, from an empty buffer on: a writer, of which `old`
+-- and `new` are the bytes that it held before and after, took what the lines print that end in it, and the buffer holds the line that none has ended
+pub record Passes (known rest old new : Option (List ℕ)) (line : List ℕ) (n : ℕ) : Type 0 where
+  pub input : List ℕ
+  pub taken : Consumes known rest input
+  pub pending : Held line n (cut [] input).pending
+  pub printed : Appends old new (fed [] input)

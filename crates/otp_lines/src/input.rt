@@ -1,47 +1,61 @@
 // The whole input: read in pieces, and what its lines print written out.
-ghost use Rattle.std.specs.Prelude.{◌≡◌, true, ◌≤◌, length, take};
-ghost use Rattle.otp_lines.specs.Stream.{Follows, Leaves, Answers};
+ghost use Rattle.std.specs.Prelude.{◌≡◌, true, ◌≤◌, length, take, is_ok, IfSome, OnOk};
+ghost use Rattle.std.specs.Io.KnownBytes.{Appends, Consumes, IsAtEnd};
+ghost use Rattle.otp_lines.specs.Stream.{output_of, Follows, Leaves, Answers, Passes};
 
 use crate::stream::{feed, finish};
-use libc::{STDIN_FILENO, STDOUT_FILENO};
+use std::io;
+use std::io::{Error, ErrorKind, Read, Write};
 
 pub(crate) const PIECE: usize = 65536;
 
 // Each byte of a piece may end a line, for which up to ten digits and a line feed are printed.
 pub(crate) const OUTPUT: usize = 11 * PIECE;
 
-// Whether the read and the write went well, how many bytes were read, the pending line's length, and how many bytes were to be printed.
+// How the read and the write went, how many bytes were read, the pending line's length, and how many bytes were to be printed.
 #[derive(Clone, Copy)]
 pub(crate) struct Turn {
-    pub(crate) ok: bool,
+    pub(crate) outcome: io::Result<()>,
     pub(crate) read: usize,
     pub(crate) n: usize,
     pub(crate) written: usize,
 }
 
 // Reads a piece, none at the end of the input, and prints the answers of the lines that end in it.
-fn answer_next(line: &mut [u8], n: usize, piece: &mut [u8], out: &mut [u8]) -> Turn
+fn answer_next<R: Read, W: Write>(
+    input: &mut R,
+    output: &mut W,
+    line: &mut [u8],
+    n: usize,
+    piece: &mut [u8],
+    out: &mut [u8],
+) -> Turn
     requires line_len { length line.old ≡ 256 }
     requires n_bound { n ≤ 257 }
     requires piece_len { length piece.old ≡ 65536 }
     requires out_len { length out.old ≡ 720896 }
     ensures read_bound { (result.read ≤ 65536) × ((result.n ≤ 257) × (result.written ≤ 720896)) }
     ensures follows { Follows line.old n (take result.read piece.new) line.new result.n (take result.written out.new) }
+    ensures taken { Consumes (R.remaining input.old) (R.remaining input.new) (take result.read piece.new) }
+    ensures end { OnOk result.outcome (result.read ≡ 0 → IsAtEnd (R.remaining input.new)) }
+    ensures written { OnOk result.outcome (Appends (W.contents output.old) (W.contents output.new) (take result.written out.new)) }
 {
-    let got = libc::read(STDIN_FILENO, piece);
-    if got < 0 {
-        return Turn {
-            ok: false,
-            read: 0,
-            n,
-            written: 0,
-        };
-    }
-    let read = io::count(got, piece);
+    let read = match input.read(piece) {
+        Ok(read) => read,
+        Err(error) => {
+            return Turn {
+                outcome: Err(error),
+                read: 0,
+                n,
+                written: 0,
+            };
+        }
+    };
     let fed = feed(line, n, &piece[0..read], out);
     let written = fed.written;
+    let outcome = output.write_all(&out[0..written]);
     Turn {
-        ok: io::write_all(STDOUT_FILENO, &out[0..written]),
+        outcome,
         read,
         n: fed.n,
         written,
@@ -49,47 +63,60 @@ fn answer_next(line: &mut [u8], n: usize, piece: &mut [u8], out: &mut [u8]) -> T
 }
 
 // Answers the pieces of the input up to its end, and leaves the pending line.
-fn answer_pieces(line: &mut [u8], piece: &mut [u8], out: &mut [u8]) -> Turn
+fn answer_pieces<R: Read, W: Write>(
+    input: &mut R,
+    output: &mut W,
+    line: &mut [u8],
+    piece: &mut [u8],
+    out: &mut [u8],
+) -> Turn
     requires line_len { length line.old ≡ 256 }
     requires piece_len { length piece.old ≡ 65536 }
     requires out_len { length out.old ≡ 720896 }
-    ensures read_value { (result.ok ≡ true → result.read ≡ 0) × (result.n ≤ 257) }
+    ensures read_value { (is_ok result.outcome ≡ true → result.read ≡ 0) × (result.n ≤ 257) }
     ensures leaves { Leaves line.new result.n }
+    ensures passes { OnOk result.outcome (Passes (R.remaining input.old) (R.remaining input.new) (W.contents output.old) (W.contents output.new) line.new result.n) }
+    ensures end { OnOk result.outcome (IsAtEnd (R.remaining input.new)) }
 {
     let mut n = 0;
     // A proved loop has to end, and nothing says that the input does: no run uses up these turns.
-    let mut turns = u64::MAX;
-    while turns > 0 {
-        let turn = answer_next(line, n, piece, out);
-        if !turn.ok | (turn.read == 0) {
+    for _ in 0..u64::MAX {
+        let turn = answer_next(input, output, line, n, piece, out);
+        if turn.outcome.is_err() | (turn.read == 0) {
             return turn;
         }
         n = turn.n;
-        turns -= 1;
     }
     Turn {
-        ok: false,
+        outcome: Err(Error::from(ErrorKind::TimedOut)),
         read: 0,
         n,
         written: 0,
     }
 }
 
-// Answers all lines of standard input.
-pub(crate) fn answer_input(line: &mut [u8], piece: &mut [u8], out: &mut [u8]) -> Turn
+// Answers all lines of the input.
+pub(crate) fn answer_input<R: Read, W: Write>(
+    input: &mut R,
+    output: &mut W,
+    line: &mut [u8],
+    piece: &mut [u8],
+    out: &mut [u8],
+) -> Turn
     requires line_len { length line.old ≡ 256 }
     requires piece_len { length piece.old ≡ 65536 }
     requires out_len { length out.old ≡ 720896 }
-    ensures { Answers result.ok line.new result.n (take result.written out.new) }
+    ensures answers { Answers (is_ok result.outcome) line.new result.n (take result.written out.new) }
+    ensures output { OnOk result.outcome (IfSome (R.remaining input.old) (λ xs. Appends (W.contents output.old) (W.contents output.new) (output_of xs))) }
 {
-    let last = answer_pieces(line, piece, out);
+    let last = answer_pieces(input, output, line, piece, out);
     // The pending line may not be whole, so it has no answer.
-    if !last.ok {
+    if last.outcome.is_err() {
         return last;
     }
     let written = finish(line, last.n, out);
     Turn {
-        ok: io::write_all(STDOUT_FILENO, &out[0..written]),
+        outcome: output.write_all(&out[0..written]),
         read: 0,
         n: last.n,
         written,

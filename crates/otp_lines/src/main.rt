@@ -1,4 +1,6 @@
 // Reads lines from standard input and prints an answer for each (document 01, "Line program").
+#![tactic(auto)]
+
 mod input;
 mod output;
 mod pending;
@@ -6,10 +8,13 @@ mod stream;
 
 use input::{OUTPUT, PIECE, answer_input};
 use pending::LONGEST;
+use std::io;
 
-fn main() {
+fn main(rt: HostRuntime) -> io::Result<()> {
     let mut line = [0u8; LONGEST];
     let mut piece = [0u8; PIECE];
     let mut out = [0u8; OUTPUT];
-    answer_input(&mut line, &mut piece, &mut out);
+    let mut input = rt.stdin();
+    let mut output = rt.stdout();
+    answer_input(&mut input, &mut output, &mut line, &mut piece, &mut out).outcome
 }
