@@ -3,6 +3,7 @@
 # make fuzz [SECONDS=300]   messages by a fuzzer, beside the reader of the tests; no part of make test
 # make bench    the times beside other libraries; writes docs/BENCHMARKS.md
 # make install [PREFIX=/usr/local] [DESTDIR=]   the C library: archive, header, pkg-config file; make uninstall removes them
+# make build    prove and build everything, and show nothing
 # make check NAME=crate   prove one crate and what it depends on
 # make fmt      lay out every file of the crates
 # make clean    remove what was built
@@ -10,14 +11,13 @@
 SHELL := bash
 .SHELLFLAGS := -o pipefail -c
 
-.PHONY: show test fuzz bench install uninstall check fmt clean
+.PHONY: show build test fuzz bench install uninstall check fmt clean
 
 # Lines key,T,C,Q,algorithm,digits of the line program: document 01's example, then ten digits, SM3, a count alone, a key too short.
 key := 1234567890abcdef1234567890abcdef
 lines := $(key),1340783053,1234,5678,4,6 $(key),1340783053,1234,5678,4,10 $(key),1340783053,1234,5678,3,6 $(key),,7,,3,8 1234,,7,,3,8
 
-show:
-	@rt check
+show: build
 	@echo
 	@echo 'The standards'"'"' examples (crates/vectors):'
 	@target/bin/vectors </dev/null
@@ -27,6 +27,9 @@ show:
 	@echo
 	@echo 'A short day at the desk (examples/day): lines for crates/desk_lines, each with its answer:'
 	@examples/day
+
+build:
+	@tools/build
 
 test:
 	@tests/run
@@ -42,7 +45,7 @@ version = $(shell sed -n 's/^\#define DL_VERSION  *"\(.*\)"/\1/p' include/dykela
 installed = $(addprefix $(DESTDIR)$(prefix)/,lib/libdykeladder.a include/dykeladder.h lib/pkgconfig/dykeladder.pc)
 
 $(archive):
-	@rt staticlib capi
+	@tools/build capi
 
 install: $(archive)
 	@install -d $(sort $(dir $(installed)))
@@ -58,10 +61,10 @@ fuzz: $(archive)
 	@tests/fuzz/run $(SECONDS)
 
 check:
-	@rt check $(NAME)
+	@cd crates/$(NAME) && rt check
 
 fmt:
-	@rt fmt
+	@for crate in crates/*/; do (cd "$$crate" && rt fmt) || exit; done
 
 clean:
-	@rm -rf target
+	@rm -rf target crates/*/out

@@ -1,4 +1,4 @@
-//! Links the proved library: `libdykeladder.a` as `make install` names it, or `libcapi.a` as `rt staticlib capi` writes it.
+//! Links the proved library: `libdykeladder.a` as `make install` names it, or `libcapi.a` as `make build` leaves it.
 //! It lies in the folder that DYKELADDER_LIB_DIR names, else in `../target/staticlib`.
 use std::env;
 use std::path::{Path, PathBuf};
@@ -22,5 +22,5 @@ fn main() {
             return;
         }
     }
-    panic!("no libdykeladder.a or libcapi.a in {}: run `rt staticlib capi`, or set DYKELADDER_LIB_DIR", folder.display());
+    panic!("no libdykeladder.a or libcapi.a in {}: run `make build`, or set DYKELADDER_LIB_DIR", folder.display());
 }
