@@ -1,5 +1,5 @@
 -- What the functions over the pieces of the input, and over the whole of it, keep and return.
-use Rattle.std.specs.Prelude.{ℕ, ◌+◌, ◌-◌, ◌≤◌, ◌≡◌, refl, Bool, true, false, List, [], ◌++◌, length, take, drop}
+use Rattle.std.specs.Prelude.{ℕ, ◌+◌, ◌-◌, ◌≤◌, ◌≡◌, refl, Bool, true, false, ◌||◌, not, List, [], ◌++◌, length, take, drop}
 use Rattle.std.proofs.Common.{◌∙◌, append-nil, arith, length-take-le, take-take}
 use Rattle.lines.specs.Lines.{cut, last, Held}
 use Rattle.lines.specs.LinesLaws.{lines_cut}
@@ -121,6 +121,13 @@ module _ (passwords : PasswordRule) where
       }
 
   -- all lines were served, whatever became of the file then
-  pub input_saved : (saved ok : Bool) {stage after : Stage} → ok ≡ true → ServesInput passwords ok stage after → ServesInput passwords saved stage after
-  input_saved saved ok e s =
+  pub input_kept : (saved ok : Bool) {stage after : Stage} → ok ≡ true → ServesInput passwords ok stage after → ServesInput passwords saved stage after
+  input_kept saved ok e s =
       record { input = s.input; lines = s.lines; rest = s.rest; split = s.split; all = λ _. s.all e; staged = s.staged }
+
+  pub input_saved : (saved : Bool) (ok none : Bool) {stage after : Stage} → not ok || none ≡ false → ServesInput passwords ok stage after → ServesInput passwords saved stage after
+  input_saved saved ok none e = input_kept saved ok (none-failed ok none e)
+    where
+      none-failed : (ok none : Bool) → not ok || none ≡ false → ok ≡ true
+      none-failed true none e = refl
+      none-failed false none e = clash refl e

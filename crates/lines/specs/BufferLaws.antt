@@ -1,7 +1,7 @@
 -- What the functions on the buffers return.
-use Rattle.std.specs.Prelude.{ℕ, ◌+◌, ◌-◌, ◌≤◌, ◌<◌, ◌≡◌, refl, List, [], ◌++◌, ltb, length, take, drop}
-use Rattle.std.proofs.Common.{ap, ◌∙◌, append_assoc, arith, ltb-true, ltb-false, length-append, length-take-le, take_at}
-use Rattle.words.specs.BoolLaws.{by-test}
+use Rattle.std.specs.Prelude.{ℕ, ◌+◌, ◌-◌, ◌≤◌, ◌<◌, ◌≡◌, refl, Bool, true, false, ◌||◌, not, List, [], ◌++◌, eqb, ltb, length, take, drop}
+use Rattle.std.proofs.Common.{ap, ◌∙◌, append_assoc, arith, eqb-true, ltb-true, ltb-false, length-append, length-take-le, take_at}
+use Rattle.words.specs.BoolLaws.{by-test, clash}
 use Rattle.words.specs.PutLaws.{put-part}
 use Rattle.lines.specs.Lines.{Held, Put}
 
@@ -63,3 +63,8 @@ module _ (line : List ℕ) (n : ℕ) (part : List ℕ) (p : List ℕ) (held : He
         short = λ m. rw (d.front, held.short (omega arith));
         long = λ m. absurd (omega (arith, d.place, size));
       }
+
+-- reading stopped, and nothing had failed
+pub input-over : (ok : Bool) (read : ℕ) → not ok || eqb read 0 ≡ true → ok ≡ true → read ≡ 0
+input-over true read e t = eqb-true read 0 e
+input-over false read e t = clash t refl

@@ -1,12 +1,10 @@
 -- The MAC: over the header without it, then the body.
-use Rattle.std.specs.Prelude.{ℕ, ◌+◌, ◌-◌, ◌^◌, ◌≤◌, ◌<◌, ◌≡◌, Bool, true, false, not, List, ◌++◌, eqb, length, get_or, take, drop}
-use Rattle.std.proofs.Common.{sym, ap, ◌∙◌, arith, length-append, length-drop, take_all}
-use borrow.Author.Tests.{eqb-true, eqb-false, not-true, not-false}
-use Rattle.words.specs.Bytes.{AreBytes, be_at, be_bytes, put_be, put}
-use Rattle.words.specs.BytesLaws.{be_at-lt, length-be_bytes, put_be-put, be_bytes-be_at, word_back}
-use Rattle.words.specs.BoolLaws.{by-test}
+use Rattle.std.specs.Prelude.{ℕ, ◌-◌, ◌≤◌, ◌≡◌, Bool, true, false, not, List, ◌++◌, length, get_or, take, drop}
+use Rattle.std.proofs.Common.{◌∙◌, arith, length-append, length-drop, take_all}
+use borrow.Author.Tests.{not-true, not-false}
+use Rattle.words.specs.Bytes.{be_bytes, put_be, put}
+use Rattle.words.specs.BytesLaws.{length-be_bytes, put_be-put}
 use Rattle.words.specs.Lists.{same_bytes}
-use Rattle.words.specs.ListsLaws.{same_equal, same_refl}
 use Rattle.sm3.specs.Sm3.{digest, sm3_of}
 use Rattle.message.specs.Message.{marked, without_mac, mac_fits}
 

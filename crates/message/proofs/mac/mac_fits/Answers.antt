@@ -1,4 +1,3 @@
-use Rattle.std.proofs.Common.{arith}
 use Rattle.message.specs.MacLaws.{mac_unmarked, mac_marked}
 use Rattle.message.proofs.mac.mac_fits.Goals as goal
 
