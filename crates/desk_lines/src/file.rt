@@ -6,6 +6,7 @@ ghost use Rattle.window.specs.PasswordAt.{password_at};
 ghost use Rattle.script.specs.Sizes.{table_bytes};
 ghost use Rattle.script.specs.Script.{stage_in};
 ghost use Rattle.desk_lines.specs.Input.{ServesInput, ServesAll};
+ghost use Rattle.desk_lines.specs.Beside.{IsBeside};
 
 use crate::arguments::{PATH_MAX, argument};
 use crate::input::{Done, serve_input};
@@ -62,6 +63,7 @@ pub(crate) struct Made<F> {
 // A path with a dot and six letters behind it.
 fn name_beside(path: &str, letters: [u8; 6]) -> ArrayString<NAME>
     requires { length path.now ≤ 4096 }
+    ensures { IsBeside path.now result.bytes }
 {
     let mut name = ArrayString::new();
     name.push_str(path);
@@ -78,6 +80,7 @@ const TRIES: usize = 62 * 62 * 62;
 // Makes a file beside path, which its owner alone can read.
 fn create_beside<R: Files + RandomSource>(rt: &R, path: &str) -> io::Result<Made<R::File>>
     requires { length path.now ≤ 4096 }
+    ensures { IfOk result (λ made. IsBeside path.now made.name.bytes) }
 {
     for _ in 0..TRIES {
         let mut letters = [0u8; 6];
