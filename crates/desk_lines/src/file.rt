@@ -1,11 +1,14 @@
 // The table in a file. The answers are kept aside until the new table is on disk under the file's name: a crash leaves the old table or the new one,
 // and no answer is printed whose table is not on disk.
-ghost use Rattle.std.specs.Prelude.{◌≡◌, false, ◌+◌, ◌≤◌, length, is_ok, IfOk, OnOk};
+ghost use Rattle.std.specs.Prelude.{◌≡◌, false, ◌+◌, ◌*◌, ◌≤◌, ◌<◌, length, take, drop, is_ok, IfOk, IfSome, OnOk};
+ghost use Rattle.std.specs.Io.KnownBytes.{Consumes, IsAtEnd};
 ghost use Rattle.std.specs.Str.{IsCharBoundary};
 ghost use Rattle.window.specs.PasswordAt.{password_at};
+ghost use Rattle.row.specs.Row.{row_bytes};
 ghost use Rattle.script.specs.Sizes.{table_bytes};
 ghost use Rattle.script.specs.Script.{stage_in};
 ghost use Rattle.desk_lines.specs.Input.{ServesInput, ServesAll};
+ghost use Rattle.desk_lines.specs.File.{IsBeside, file_table};
 
 use crate::arguments::{PATH_MAX, argument};
 use crate::input::{Done, serve_input};
@@ -22,13 +25,22 @@ use std::{fs, io, str};
 // A path, and behind it the letters that make it the name of a new file.
 const NAME: usize = PATH_MAX + 7;
 
-// Reads the table, and answers how many rows it has: none if the file has no right length.
+// Reads the table in a file, and answers how many rows it has.
 fn load<R: Files>(rt: &R, path: &str, table: &mut [u8]) -> io::Result<usize>
     requires { length table.old ≡ table_bytes }
     ensures { IfOk result (λ rows. rows ≤ 256) }
 {
     let mut file = fs::open(rt, path)?;
-    let len = read_full(&mut file, table)?;
+    read_table(&mut file, table)
+}
+
+// Reads the table, and answers how many rows it has: none if the file has no right length.
+fn read_table<F: Read>(file: &mut F, table: &mut [u8]) -> io::Result<usize>
+    requires { length table.old ≡ table_bytes }
+    ensures upper_bound { IfOk result (λ rows. rows ≤ 256) }
+    ensures value { IfOk result (λ rows. IfSome (F.remaining file.old) (λ xs. take (row_bytes * rows) table.new ≡ file_table xs)) }
+{
+    let len = read_full(file, table)?;
     let mut more = [0u8; 1];
     let got = file.read(&mut more)?;
     if (0 < got) | (len % ROW_BYTES != 0) {
@@ -39,17 +51,30 @@ fn load<R: Files>(rt: &R, path: &str, table: &mut [u8]) -> io::Result<usize>
 
 // Reads until the table is full or the file ends, and answers how many bytes that are.
 fn read_full<F: Read>(file: &mut F, table: &mut [u8]) -> io::Result<usize>
-    ensures { IfOk result (λ len. len ≤ length table.new) }
+    ensures upper_bound { IfOk result (λ len. len ≤ length table.new) }
+    ensures taken { IfOk result (λ len. Consumes (F.remaining file.old) (F.remaining file.new) (take len table.new)) }
+    ensures end { IfOk result (λ len. len < length table.new → IsAtEnd (F.remaining file.new)) }
 {
     let mut len = 0;
     while len < table.len() {
-        let got = file.read(&mut table[len..])?;
+        let got = read_behind(file, table, len)?;
         if got == 0 {
-            break;
+            return Ok(len);
         }
         len += got;
     }
     Ok(len)
+}
+
+// Reads behind the first len bytes of the table, and answers how many bytes it read, none at the end of the file.
+fn read_behind<F: Read>(file: &mut F, table: &mut [u8], len: usize) -> io::Result<usize>
+    requires { len < length table.old }
+    ensures front { take len table.new ≡ take len table.old }
+    ensures upper_bound { IfOk result (λ got. len + got ≤ length table.new) }
+    ensures taken { IfOk result (λ got. Consumes (F.remaining file.old) (F.remaining file.new) (take got (drop len table.new))) }
+    ensures end { IfOk result (λ got. got ≡ 0 → IsAtEnd (F.remaining file.new)) }
+{
+    file.read(&mut table[len..])
 }
 
 // A new file that is open for reading and writing, and its name.
@@ -62,6 +87,7 @@ pub(crate) struct Made<F> {
 // A path with a dot and six letters behind it.
 fn name_beside(path: &str, letters: [u8; 6]) -> ArrayString<NAME>
     requires { length path.now ≤ 4096 }
+    ensures { IsBeside path.now result.bytes }
 {
     let mut name = ArrayString::new();
     name.push_str(path);
@@ -78,6 +104,7 @@ const TRIES: usize = 62 * 62 * 62;
 // Makes a file beside path, which its owner alone can read.
 fn create_beside<R: Files + RandomSource>(rt: &R, path: &str) -> io::Result<Made<R::File>>
     requires { length path.now ≤ 4096 }
+    ensures { IfOk result (λ made. IsBeside path.now made.name.bytes) }
 {
     for _ in 0..TRIES {
         let mut letters = [0u8; 6];
