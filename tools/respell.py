@@ -1,7 +1,7 @@
 #!/usr/bin/env python3
 """Spells the repository's own definitions and lemmas as today's Rattle does: respell.py [--names] [FOLDER].
 
-Run once, after /opt/rattle/port/port.py, at the top of the repository. Words are in snake case; a dash stays only between
+Run once, after the kit's port.py, at the top of the repository. Words are in snake case; a dash stays only between
 two names of definitions, as in `length-be_bytes`. Types, facts and modules keep their capitals. Names of src/ are never touched.
 --names prints the table, old and new, and writes nothing.
 """
