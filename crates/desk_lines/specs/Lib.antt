@@ -2,6 +2,7 @@
 pub mod Input
 pub mod File
 pub mod FileLaws
+pub mod FileTable
 pub mod AdvanceLaws
 pub mod InputLaws
 pub mod PassLaws
