@@ -1,5 +1,5 @@
 -- Laws of the search as the code makes it: the rows that are left give what all give, and rows without the serial are passed over by fours.
-use Rattle.std.specs.Prelude.{ℕ, zero, suc, ◌+◌, ◌-◌, ◌*◌, ◌/◌, ◌^◌, ◌≤◌, ◌<◌, ◌≡◌, Bool, true, false, not, ◌&&◌, ◌||◌, List, leb}
+use Rattle.std.specs.Prelude.{ℕ, zero, suc, ◌+◌, ◌-◌, ◌*◌, ◌/◌, ◌^◌, ◌≤◌, ◌<◌, ◌≡◌, Bool, true, false, not, ◌&&◌, ◌||◌, List, leb, Option, Some, None}
 use Rattle.std.proofs.Math.Path.{refl}
 use Rattle.std.proofs.Common.{sym, ap, ◌∙◌, add-one}
 use Rattle.std.proofs.Math.Nat.{sub-zero, div-eq_of_lt, div-eq-sub-div}
@@ -9,8 +9,6 @@ use Rattle.std.proofs.Math.ListN.{length}
 use Rattle.words.specs.Bytes.{AreBytes, swap_bytes}
 use Rattle.words.specs.BoolLaws.{and_false, and_left, and_right, or_left, or_right}
 use Rattle.words.specs.SwapLaws.{swapped_same}
-use Rattle.row.specs.declared.reading.Place.{Place}
-use Rattle.row.specs.declared.reading.Place.TheVariants.{At, Nowhere}
 use Rattle.row.specs.declared.finding.Wanted.TheVariants.{Serial, Empty}
 use Rattle.row.specs.Row.{row_bytes}
 use Rattle.row.specs.Table.{is_empty, has_serial, first_row, find_row, find_empty}
@@ -26,13 +24,13 @@ one_more n width at next some e h =
     div-eq-sub-div some l ∙ rw (m, add-one)
 
 module _ (width : ℕ) (test : ℕ → Bool) (s : List ℕ) (some : row_bytes ≤ width) (at : ℕ) where
-  pub none_left : length s < at + width → Nowhere ≡ first_from width test s at
+  pub none_left : length s < at + width → None ≡ first_from width test s at
   unfolding first_from first_row
   none_left h =
       let l : length s - at < width = omega arith in
       rw (div-eq_of_lt l)
 
-  pub first_passes : at + width ≤ length s → test at ≡ true → At at ≡ first_from width test s at
+  pub first_passes : at + width ≤ length s → test at ≡ true → Some at ≡ first_from width test s at
   unfolding first_from first_row
   first_passes h t = rw (one_more (length s) width at (at + width) (omega arith) refl h, t)
 
@@ -90,7 +88,7 @@ first-same width test other e zero at = refl
 first-same width test other e (suc count) at = rw (e at, first-same width test other e count (at + width))
 
 -- a serial is found by its bytes in the other order
-pub found_swapped : (width : ℕ) (s : List ℕ) (serial : ℕ) {wanted : ℕ} {r : Place} → AreBytes s → serial < 2 ^ 64 → wanted ≡ swap_bytes 8 serial
+pub found_swapped : (width : ℕ) (s : List ℕ) (serial : ℕ) {wanted : ℕ} {r : Option ℕ} → AreBytes s → serial < 2 ^ 64 → wanted ≡ swap_bytes 8 serial
     → r ≡ first_from width (passes s (Serial wanted)) s 0 → r ≡ find_row width s serial
 unfolding first_from find_row has_serial
 found_swapped width s serial bytes l w e =
@@ -98,6 +96,6 @@ found_swapped width s serial bytes l w e =
     ∙ first-same width (passes s (Serial (swap_bytes 8 serial))) (has_serial s serial)
     (λ at. ap (λ (b : Bool). not (is_empty s at) && b) (sym (swapped_same 8 s (at + 8) serial bytes l))) (length s / width) 0
 
-pub found-empty : (width : ℕ) (s : List ℕ) {r : Place} → r ≡ first_from width (passes s Empty) s 0 → r ≡ find_empty width s
+pub found-empty : (width : ℕ) (s : List ℕ) {r : Option ℕ} → r ≡ first_from width (passes s Empty) s 0 → r ≡ find_empty width s
 unfolding first_from find_empty
 found-empty width s e = rw sub-zero at e
