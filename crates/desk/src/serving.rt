@@ -7,7 +7,7 @@ ghost use Rattle.desk.specs.Desk.{result_of, left_at, missing, served, desk_afte
 
 use crate::arguments::lent_ok;
 use otp::challenge_ok;
-use row::{KEY, LAST_STATE, Located, ROW_BYTES, locate, store_row, wipe_key};
+use row::{KEY, LAST_STATE, Located, ROW_BYTES, Unserved, locate, store_row, wipe_key};
 use token::{Answer, Key, Left, Refusal, Request, decide, report};
 use window::Seconds;
 
@@ -27,13 +27,12 @@ fn leave(table: &mut [u8], at: usize, left: Left)
 }
 
 // What is said where there is no row to serve.
-fn missing(located: Located) -> Refusal
-    ensures { result ≡ missing located }
+fn missing(unserved: Unserved) -> Refusal
+    ensures { result ≡ missing unserved }
 {
-    match located {
-        Located::At(_, _) => Refusal::Unknown,
-        Located::Unknown => Refusal::Unknown,
-        Located::Damaged => Refusal::Damaged,
+    match unserved {
+        Unserved::Unknown => Refusal::Unknown,
+        Unserved::Damaged => Refusal::Damaged,
     }
 }
 
@@ -60,9 +59,9 @@ pub fn serve(
     if !(lent_ok(table, clock) & challenge_fits(request, challenge)) {
         return Answer::Refused(Refusal::BadArgument);
     }
-    let located = locate(table, ROW_BYTES, LAST_STATE, serial);
-    let Located::At(at, row) = located else {
-        return Answer::Refused(missing(located));
+    let Located { at, row } = match locate(table, ROW_BYTES, LAST_STATE, serial) {
+        Ok(located) => located,
+        Err(unserved) => return Answer::Refused(missing(unserved)),
     };
     let start = at + KEY;
     let end = start + row.key_length as usize;
@@ -79,9 +78,8 @@ pub fn query(table: &[u8], serial: u64, clock: Seconds) -> Answer
     if !lent_ok(table, clock) {
         return Answer::Refused(Refusal::BadArgument);
     }
-    let located = locate(table, ROW_BYTES, LAST_STATE, serial);
-    let Located::At(_, row) = located else {
-        return Answer::Refused(missing(located));
-    };
-    report(row, clock)
+    match locate(table, ROW_BYTES, LAST_STATE, serial) {
+        Ok(located) => report(located.row, clock),
+        Err(unserved) => Answer::Refused(missing(unserved)),
+    }
 }

@@ -1,5 +1,5 @@
 -- Laws of the search as the code makes it: the rows that are left give what all give, and rows without the serial are passed over by fours.
-use Rattle.std.specs.Prelude.{ℕ, zero, suc, ◌+◌, ◌-◌, ◌*◌, ◌/◌, ◌^◌, ◌≤◌, ◌<◌, ◌≡◌, Bool, true, false, not, ◌&&◌, ◌||◌, List, leb, Option, Some, None}
+use Rattle.std.specs.Prelude.{ℕ, zero, suc, ◌+◌, ◌-◌, ◌*◌, ◌/◌, ◌^◌, ◌≤◌, ◌<◌, ◌≡◌, Bool, true, false, not, ◌&&◌, ◌||◌, List, leb, Some, None}
 use Rattle.std.proofs.Math.Path.{refl}
 use Rattle.std.proofs.Common.{sym, ap, ◌∙◌, add-one}
 use Rattle.std.proofs.Math.Nat.{sub-zero, div-eq_of_lt, div-eq-sub-div}
@@ -11,7 +11,7 @@ use Rattle.words.specs.BoolLaws.{and_false, and_left, and_right, or_left, or_rig
 use Rattle.words.specs.SwapLaws.{swapped_same}
 use Rattle.row.specs.declared.finding.Wanted.TheVariants.{Serial, Empty}
 use Rattle.row.specs.Row.{row_bytes}
-use Rattle.row.specs.Table.{is_empty, has_serial, first_row, find_row, find_empty}
+use Rattle.row.specs.Table.{Place, is_empty, has_serial, first_row, find_row, find_empty}
 use Rattle.row.specs.Finding.{serial_is, passes, first_from, four_lack}
 
 -- ---- one row after the other
@@ -88,7 +88,7 @@ first-same width test other e zero at = refl
 first-same width test other e (suc count) at = rw (e at, first-same width test other e count (at + width))
 
 -- a serial is found by its bytes in the other order
-pub found_swapped : (width : ℕ) (s : List ℕ) (serial : ℕ) {wanted : ℕ} {r : Option ℕ} → AreBytes s → serial < 2 ^ 64 → wanted ≡ swap_bytes 8 serial
+pub found_swapped : (width : ℕ) (s : List ℕ) (serial : ℕ) {wanted : ℕ} {r : Place} → AreBytes s → serial < 2 ^ 64 → wanted ≡ swap_bytes 8 serial
     → r ≡ first_from width (passes s (Serial wanted)) s 0 → r ≡ find_row width s serial
 unfolding first_from find_row has_serial
 found_swapped width s serial bytes l w e =
@@ -96,6 +96,6 @@ found_swapped width s serial bytes l w e =
     ∙ first-same width (passes s (Serial (swap_bytes 8 serial))) (has_serial s serial)
     (λ at. ap (λ (b : Bool). not (is_empty s at) && b) (sym (swapped_same 8 s (at + 8) serial bytes l))) (length s / width) 0
 
-pub found-empty : (width : ℕ) (s : List ℕ) {r : Option ℕ} → r ≡ first_from width (passes s Empty) s 0 → r ≡ find_empty width s
+pub found-empty : (width : ℕ) (s : List ℕ) {r : Place} → r ≡ first_from width (passes s Empty) s 0 → r ≡ find_empty width s
 unfolding first_from find_empty
 found-empty width s e = rw sub-zero at e

@@ -1,9 +1,9 @@
 -- The search for a row as the code makes it: by the serial's bytes in the other order, and over four rows at once.
-use Rattle.std.specs.Prelude.{ℕ, ◌+◌, ◌-◌, ◌*◌, ◌/◌, Bool, not, ◌&&◌, ◌||◌, List, eqb, leb, length, Option}
+use Rattle.std.specs.Prelude.{ℕ, ◌+◌, ◌-◌, ◌*◌, ◌/◌, Bool, not, ◌&&◌, ◌||◌, List, eqb, leb, length}
 use Rattle.words.specs.Bytes.{le_at}
 use Rattle.row.specs.declared.finding.Wanted.{Wanted}
 use Rattle.row.specs.declared.finding.Wanted.TheVariants.{Serial, Empty}
-use Rattle.row.specs.Table.{is_empty, first_row}
+use Rattle.row.specs.Table.{Place, is_empty, first_row}
 
 -- whether the row at a place has the serial whose bytes, in the other order, are the wanted number
 abbrev pub serial_is : List ℕ → ℕ → ℕ → Bool
@@ -15,7 +15,7 @@ passes s (Serial wanted) at = not (is_empty s at) && serial_is s wanted at
 passes s Empty at = is_empty s at
 
 -- the first row that passes, of those from a place to the table's end
-unfoldable pub first_from : ℕ → (ℕ → Bool) → List ℕ → ℕ → Option ℕ
+unfoldable pub first_from : ℕ → (ℕ → Bool) → List ℕ → ℕ → Place
 first_from width test s at = first_row width test ((length s - at) / width) at
 
 -- whether four rows are left at a place, and none of them has the serial

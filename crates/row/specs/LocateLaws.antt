@@ -1,5 +1,5 @@
 -- The ways through the locating of a row, and what each of its answers says.
-use Rattle.std.specs.Prelude.{ℕ, ◌+◌, ◌≤◌, ◌≡◌, refl, Bool, List, get_or, Option, Some, None, Ok, Err}
+use Rattle.std.specs.Prelude.{ℕ, ◌+◌, ◌≤◌, ◌≡◌, refl, Bool, List, get_or, Some, None, Ok, Err}
 use Rattle.std.proofs.Math.Path.{sym}
 use Rattle.std.proofs.Common.{ap, ◌∙◌}
 use Rattle.std.proofs.Math.Bool.{true, false}
@@ -9,11 +9,11 @@ use Rattle.row.specs.declared.reading.Located.{Located}
 use Rattle.row.specs.declared.reading.Unserved.TheVariants.{Unknown, Damaged}
 use Rattle.row.specs.Row.{key_bytes, row_at, numbers_ok, zeros_ok, well_formed}
 use Rattle.row.specs.RangeLaws.{length_in_range}
-use Rattle.row.specs.Table.{find_row, located_at, located}
+use Rattle.row.specs.Table.{Place, find_row, located_at, located}
 
 -- ---- the ways through
 
-module _ (width highest : ℕ) (s : List ℕ) (serial : ℕ) {p : Option ℕ} (found : p ≡ find_row width s serial) where
+module _ (width highest : ℕ) (s : List ℕ) (serial : ℕ) {p : Place} (found : p ≡ find_row width s serial) where
   pub not_found : p ≡ None → Err Unknown ≡ located width highest s serial
   unfolding located
   not_found e = rw (sym found ∙ e)
@@ -47,7 +47,7 @@ module _ (width highest : ℕ) (s : List ℕ) (serial : ℕ) {p : Option ℕ} (f
 -- ---- what the answers say
 
 module _ (highest : ℕ) (s : List ℕ) where
-  at-formed : (p : Option ℕ) (x : Located) → located_at highest s p ≡ Ok x → (p ≡ Some x.at) × ((well_formed highest s x.at ≡ true) × (x.row ≡ row_at s x.at))
+  at-formed : (p : Place) (x : Located) → located_at highest s p ≡ Ok x → (p ≡ Some x.at) × ((well_formed highest s x.at ≡ true) × (x.row ≡ row_at s x.at))
   at-formed (Some by) x e =
       by-test (well_formed highest s by)
       (λ t.
@@ -57,11 +57,11 @@ module _ (highest : ℕ) (s : List ℕ) where
       (λ t. let f = rw t at e in impossible (cc))
   at-formed None x e = impossible (cc)
 
-  unknown-nowhere : (p : Option ℕ) → located_at highest s p ≡ Err Unknown → p ≡ None
+  unknown-nowhere : (p : Place) → located_at highest s p ≡ Err Unknown → p ≡ None
   unknown-nowhere (Some by) e = by-test (well_formed highest s by) (λ t. let f = rw t at e in impossible (cc)) (λ t. let f = rw t at e in impossible (cc))
   unknown-nowhere None e = refl
 
-  damaged_not_formed : (p : Option ℕ) → located_at highest s p ≡ Err Damaged → (at : ℕ) × ((p ≡ Some at) × (well_formed highest s at ≡ false))
+  damaged_not_formed : (p : Place) → located_at highest s p ≡ Err Damaged → (at : ℕ) × ((p ≡ Some at) × (well_formed highest s at ≡ false))
   damaged_not_formed (Some by) e = by-test (well_formed highest s by) (λ t. let f = rw t at e in impossible (cc)) (λ t. (by, (refl, t)))
   damaged_not_formed None e = impossible (cc)
 

@@ -24,26 +24,34 @@ is_empty s at = eqb (get_or s (at + 0) 0) 0
 unfoldable pub has_serial : List ℕ → ℕ → ℕ → Bool
 has_serial s serial at = not (is_empty s at) && eqb (be_at 8 s (at + 8)) serial
 
+-- the place of a row, if there is one
+abbrev pub Place : Type 0
+Place = Option ℕ
+
+-- what the search for a row to serve comes to
+abbrev pub Sought : Type 0
+Sought = Result Located Unserved
+
 -- the first of `count` rows of a width, from a place on, that passes the test
-unfoldable pub first_row : ℕ → (ℕ → Bool) → ℕ → ℕ → Option ℕ
+unfoldable pub first_row : ℕ → (ℕ → Bool) → ℕ → ℕ → Place
 first_row width test zero at = None
 first_row width test (suc count) at = cond (test at) (Some at) (first_row width test count (at + width))
 
 -- the serial's row is the first one not empty that has it
-unfoldable pub find_row : ℕ → List ℕ → ℕ → Option ℕ
+unfoldable pub find_row : ℕ → List ℕ → ℕ → Place
 find_row width s serial = first_row width (has_serial s serial) (length s / width) 0
 
 -- load takes the first empty row (document 01, Part 5)
-unfoldable pub find_empty : ℕ → List ℕ → Option ℕ
+unfoldable pub find_empty : ℕ → List ℕ → Place
 find_empty width s = first_row width (is_empty s) (length s / width) 0
 
 -- a call goes on only with a well_formed_lem row: with its place and its numbers
-abbrev pub located_at : ℕ → List ℕ → Option ℕ → Result Located Unserved
+abbrev pub located_at : ℕ → List ℕ → Place → Sought
 located_at highest s (Some at) = cond (well_formed highest s at) (Ok (record { at = at; row = row_at s at })) (Err Damaged)
 located_at highest s None = Err Unknown
 
 -- the serial's row in a table whose rows have a width and states up to the highest
-unfoldable pub located : ℕ → ℕ → List ℕ → ℕ → Result Located Unserved
+unfoldable pub located : ℕ → ℕ → List ℕ → ℕ → Sought
 located width highest s serial = located_at highest s (find_row width s serial)
 
 -- the table with next and d stored at a place
