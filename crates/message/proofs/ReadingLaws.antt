@@ -14,6 +14,21 @@ use Rattle.message.specs.FrameLaws.{items-end, fits-long}
 
 -- ---- bytes that are a message, with a MAC that fits
 
+module _ (s : List ℕ) where
+  pub not_framed : framed_as s ≡ None → frame_fits s ≡ false
+  unfolding framed_as
+  not_framed e =
+      by-test (frame_fits s)
+      (λ t. let h : ◌≡◌ {A = Option (List ℕ)} (Some s) None = rw t at e in impossible (cc))
+      (λ f. f)
+
+  pub is-framed : {f : List ℕ} → framed_as s ≡ Some f → (frame_fits s ≡ true) × (f ≡ s)
+  unfolding framed_as
+  is-framed {f} e =
+      by-test (frame_fits s)
+      (λ t. let h : Some s ≡ Some f = rw t at e in (t, cc))
+      (λ n. let h : ◌≡◌ {A = Option (List ℕ)} None (Some f) = rw n at e in impossible (cc))
+
 -- what they say
 abbrev pub said : Result (List ℕ) Refusal → MessageRead
 said (Ok s) = Ok (message_at s)
