@@ -4,7 +4,7 @@ use Rattle.std.proofs.Common.{◌∙◌, arith, leb-true, leb-false, ltb-false}
 use Rattle.words.specs.BoolLaws.{or_left, or_right, by-test, either, clash}
 use Rattle.window.specs.declared.goal.Goal.{Goal}
 use Rattle.window.specs.declared.met.Met.{Met}
-use Rattle.window.specs.Goal.{ahead_by}
+use Rattle.window.specs.Goal.{seeks_pair, ahead_by}
 use Rattle.window.specs.Sweep.{sure_cuts, met_by}
 
 -- the steps from first up to, not including, end
@@ -33,15 +33,15 @@ pub record Stand (pair : Bool) (hit : ℕ → Bool) (first end next ahead : ℕ)
   pub paired : pair ≡ true → Paired hit first end next ahead m made i
 
 pub stand-begun : (goal : Goal) (hit : ℕ → Bool) (first end next : ℕ) {ahead sure : ℕ} → ahead ≡ ahead_by goal → end - first ≤ 51 → first ≤ 2 ^ 41
-    → sure ≡ sure_cuts goal (end - first) (next - first) → Stand goal.pair hit first end next ahead (record { used = false; again = false; fresh = 0; at = 0 }) sure 0
+    → sure ≡ sure_cuts goal (end - first) (next - first) → Stand (seeks_pair goal) hit first end next ahead (record { used = false; again = false; fresh = 0; at = 0 }) sure 0
 stand-begun goal hit first end next {ahead} {sure} a f s e =
     record {
       stands = a;
       few = f;
       small = s;
       looked = omega arith;
-      most = by-test goal.pair (λ p. omega (arith, rw p at e)) (λ p. omega (arith, rw p at e));
-      least = by-test goal.pair (λ p. omega (arith, rw p at e, rw p at a)) (λ p. omega (arith, rw p at e));
+      most = by-test (seeks_pair goal) (λ p. omega (arith, rw p at e)) (λ p. omega (arith, rw p at e));
+      least = by-test (seeks_pair goal) (λ p. omega (arith, rw p at e, rw p at a)) (λ p. omega (arith, rw p at e));
       counts = omega arith;
       near = omega arith;
       all = λ p. rw p at e;
@@ -52,7 +52,7 @@ stand-begun goal hit first end next {ahead} {sure} a f s e =
 
 -- where there are candidates, some cuts are made at once
 pub sure_some : (goal : Goal) (used : ℕ) {all sure : ℕ} → sure ≡ sure_cuts goal all used → 0 < all → 0 < sure
-sure_some goal used e l = rw e (either (λ (n : ℕ). 0 < n) goal.pair (omega arith) l)
+sure_some goal used e l = rw e (either (λ (n : ℕ). 0 < n) (seeks_pair goal) (omega arith) l)
 
 module _ {pair : Bool} {hit : ℕ → Bool} {first end next ahead : ℕ} {m : Met} {made i : ℕ} (st : Stand pair hit first end next ahead m made i) where
   -- ---- the sweep has not ended

@@ -19,7 +19,7 @@ use Rattle.window.specs.Range.{first_step, end_step}
 use Rattle.window.specs.WindowLaws.{candidates_are-range, end_below}
 use Rattle.window.specs.Check.{how_many, fresh_hit, checked, settled}
 use Rattle.window.proofs.CheckLaws.{misses_leave, same-past, checked_miss, checked-none, checked-used, checked-fresh, accepted-stays, checked-agree}
-use Rattle.window.specs.Goal.{ahead_by, hits, more_sure, maker_of, cut_at}
+use Rattle.window.specs.Goal.{seeks_pair, ahead_by, hits, more_sure, maker_of, cut_at}
 use Rattle.window.specs.GoalLaws.{more_left, more_hit}
 use Rattle.window.proofs.ManyLaws.{many-next, many_miss, many-none, many-agree}
 use Rattle.window.proofs.StandLaws.{within, Stand, some_left, for_pair, stand-made}
@@ -135,20 +135,20 @@ module _ (first end next : ℕ) (goal : Goal) (cut_of : ℕ → ℕ) where
       rw (le-leb first (first + i) (omega arith), lt-ltb (first + i) end (omega arith), le-leb first (first + i + ahead_by goal) (omega arith), lt-ltb (first + i + ahead_by goal) end l') e
 
   -- with the cuts that are certain to be reached
-  pub more_stand : {ahead made i x more : ℕ} {m : Met} (st : Stand goal.pair range_hit first end next ahead m made i)
-      (still : leb end (first + i + ahead) || (goal.pair && ltb 0 m.fresh) ≡ false) (short : made ≤ i + ahead) → x ≡ cut_of (first + i)
-      → (more ≡ more_sure goal x (end - (first + made))) × ((1 ≤ more) × (more ≤ 2)) → Stand goal.pair range_hit first end next ahead m (made + more) i
+  pub more_stand : {ahead made i x more : ℕ} {m : Met} (st : Stand (seeks_pair goal) range_hit first end next ahead m made i)
+      (still : leb end (first + i + ahead) || (seeks_pair goal && ltb 0 m.fresh) ≡ false) (short : made ≤ i + ahead) → x ≡ cut_of (first + i)
+      → (more ≡ more_sure goal x (end - (first + made))) × ((1 ≤ more) × (more ≤ 2)) → Stand (seeks_pair goal) range_hit first end next ahead m (made + more) i
   more_stand {made = made} {i = i} {x = x} st still short ex e =
       let left = end - (first + made) in
       stand-made st still short e.1.0 e.1.1 (more_left goal x left e.0 (omega (arith, some_left st still short)))
-      (λ t. more_hit goal x left e.0 (cut_of (first + i + ahead_by goal)) (for_pair st still short) (rw ex (and_right (within first end (first + i) && within first end (first + i + ahead_by goal)) _ t)))
+      (λ t. more_hit goal x left e.0 (cut_of (first + i + ahead_by goal)) (rw ex (and_right (within first end (first + i) && within first end (first + i + ahead_by goal)) _ t)))
 
   pub told-next : (m : Met) (i : ℕ) {h : Bool} → range_hit (first + i) ≡ h → Told m i → Told (met_by m h (leb next (first + i)) (eqb (first + i + 1) next) i) (i + 1)
   told-next m i {h} eh told =
       record { found = met_next range_hit next first i m told.found h _ eh refl; counted = counted_next m i h _ _ told.counted eh refl }
 
-  module _ {ahead n made i : ℕ} {m : Met} (ea : ahead ≡ ahead_by goal) (below : end ≤ n) (st : Stand goal.pair range_hit first end next ahead m made i) (told : Told m i)
-      (ended : leb end (first + i + ahead) || (goal.pair && ltb 0 m.fresh) ≡ true) where
+  module _ {ahead n made i : ℕ} {m : Met} (ea : ahead ≡ ahead_by goal) (below : end ≤ n) (st : Stand (seeks_pair goal) range_hit first end next ahead m made i) (told : Told m i)
+      (ended : leb end (first + i + ahead) || (seeks_pair goal && ltb 0 m.fresh) ≡ true) where
     none_above : end ≤ first + i + ahead → (r : ℕ) → min (first + i) n ≤ r → range_hit r ≡ false
     none_above l r p = hit_above r (rw (← ea) (omega arith))
 
@@ -159,33 +159,33 @@ module _ (first end next : ℕ) (goal : Goal) (cut_of : ℕ → ℕ) where
     whole-found : m.fresh ≤ 1 → checked range_hit next n ≡ met_once first 0 m
     whole-found few =
         by-test (ltb 0 m.fresh)
-        (λ u. by-test goal.pair
+        (λ u. by-test (seeks_pair goal)
         (λ p.
         let e : n ≡ first + i + (n - (first + i)) = omega (arith, st.looked, st.most, (st.paired p).ends (ltb-true 0 m.fresh u)) in
         rw u (ap (checked range_hit next) e ∙ accepted-stays range_hit next (first + m.at + 0) (first + i) (n - (first + i)) (rw u at (told.found few))))
-        (λ p. whole-at (all-looked goal.pair first end ahead i m (λ t. clash t p) ended) few))
-        (λ u. whole-at (all-looked goal.pair first end ahead i m (λ t. ltb-false 0 m.fresh u) ended) few)
+        (λ p. whole-at (all-looked (seeks_pair goal) first end ahead i m (λ t. clash t p) ended) few))
+        (λ u. whole-at (all-looked (seeks_pair goal) first end ahead i m (λ t. ltb-false 0 m.fresh u) ended) few)
 
-    whole-counted : goal.pair ≡ false → how_many fresh n ≡ m.fresh
+    whole-counted : seeks_pair goal ≡ false → how_many fresh n ≡ m.fresh
     whole-counted p =
-        let l = all-looked goal.pair first end ahead i m (λ t. clash t p) ended in
+        let l = all-looked (seeks_pair goal) first end ahead i m (λ t. clash t p) ended in
         same-past (how_many fresh) fresh (many_miss fresh) (first + i) n (λ r q. rw (none_above l r q) (and_false (leb next r))) ∙ told.counted
 
-    made-are : min (swept_to goal.pair n (met_outcome first ahead m)) end - first ≡ made
-    made-are = by-test goal.pair (λ p. rw p (for_pair p)) (λ p. rw (p, single-swept n (met_outcome first ahead m)) (omega (arith, st.all p)))
+    made-are : min (swept_to (seeks_pair goal) n (met_outcome first ahead m)) end - first ≡ made
+    made-are = by-test (seeks_pair goal) (λ p. rw p (for_pair p)) (λ p. rw (p, single-swept n (met_outcome first ahead m)) (omega (arith, st.all p)))
       where
         past-unaccepted : (a u : Bool) → swept_to true n (unaccepted a u) ≡ n
         past-unaccepted true u = refl
         past-unaccepted false true = refl
         past-unaccepted false false = refl
 
-        for_pair : goal.pair ≡ true → min (swept_to true n (met_outcome first ahead m)) end - first ≡ made
+        for_pair : seeks_pair goal ≡ true → min (swept_to true n (met_outcome first ahead m)) end - first ≡ made
         for_pair p =
             rw (lt-leb 2 m.fresh (omega (arith, (st.paired p).once)))
             (by-test (ltb 0 m.fresh)
             (λ u. rw u (omega (arith, st.most, (st.paired p).ends (ltb-true 0 m.fresh u))))
             (λ u.
-            let l = all-looked goal.pair first end ahead i m (λ t. ltb-false 0 m.fresh u) ended in
+            let l = all-looked (seeks_pair goal) first end ahead i m (λ t. ltb-false 0 m.fresh u) ended in
             rw (u, past-unaccepted m.again m.used) (omega (arith, st.most, st.least))))
 
 settled-met : (first ahead : ℕ) (m : Met) → settled ahead (met_once first 0 m) ≡ met_once first ahead m
@@ -211,8 +211,8 @@ once-met first ahead m few =
 -- ---- the end of the sweep
 
 module _ (k : Track) (clock : ℕ) (size : Size) (goal : Goal) (cut_of : ℕ → ℕ) {first end ahead made i : ℕ} {m : Met} (ef : first ≡ first_step k clock size) (ee : end ≡ end_step k clock size)
-    (ea : ahead ≡ ahead_by goal) (st : Stand goal.pair (range_hit first end k.next.0 goal cut_of) first end k.next.0 ahead m made i) (told : Told first end k.next.0 goal cut_of m i)
-    (ended : leb end (first + i + ahead) || (goal.pair && ltb 0 m.fresh) ≡ true) where
+    (ea : ahead ≡ ahead_by goal) (st : Stand (seeks_pair goal) (range_hit first end k.next.0 goal cut_of) first end k.next.0 ahead m made i) (told : Told first end k.next.0 goal cut_of m i)
+    (ended : leb end (first + i + ahead) || (seeks_pair goal && ltb 0 m.fresh) ≡ true) where
   below : end ≤ beyond k clock
   below = rw ee (end_below k clock size)
 
@@ -226,7 +226,7 @@ module _ (k : Track) (clock : ℕ) (size : Size) (goal : Goal) (cut_of : ℕ →
   -- what the loop has counted is what the check reports
   fresh-met : goal_fresh k clock size goal cut_of ≡ m.fresh
   fresh-met =
-      either-by (λ (x : ℕ). x ≡ m.fresh) goal.pair
+      either-by (λ (x : ℕ). x ≡ m.fresh) (seeks_pair goal)
       (λ p. rw (found-met (st.paired p).once) (once-met first ahead m (st.paired p).once))
       (λ p.
       many-agree (fresh_hit (goal_hit (candidate k clock size) goal cut_of) k.next.0) (fresh_hit (goal_hit (within first end) goal cut_of) k.next.0) (λ s. rw (hits-agree s)) (beyond k clock)
@@ -238,14 +238,14 @@ module _ (k : Track) (clock : ℕ) (size : Size) (goal : Goal) (cut_of : ℕ →
   swept : {o : Outcome} → o ≡ met_outcome first ahead m → ◌≡◌ {A = Swept} (record { outcome = o; computed = made; fresh = m.fresh }) (swept_by k clock size goal cut_of)
   unfolding swept_by
   swept eo =
-      let e : computed_to goal.pair k clock size (met_outcome first ahead m) ≡ made =
-      candidates_below k clock size (swept_to goal.pair (beyond k clock) (met_outcome first ahead m)) ∙ rw (← ef, ← ee) (made-are first end k.next.0 goal cut_of ea below st told ended) in
+      let e : computed_to (seeks_pair goal) k clock size (met_outcome first ahead m) ≡ made =
+      candidates_below k clock size (swept_to (seeks_pair goal) (beyond k clock) (met_outcome first ahead m)) ∙ rw (← ef, ← ee) (made-are first end k.next.0 goal cut_of ea below st told ended) in
       rw (outcome-met, fresh-met, e, eo)
 
 -- ---- the loop's invariant
 
 pub record Sweeping (goal : Goal) (cut_of : ℕ → ℕ) (ahead first end next : ℕ) (cuts : List ℕ) (made : ℕ) (m : Met) (i : ℕ) : Type 0 where
-  pub stand : Stand goal.pair (range_hit first end next goal cut_of) first end next ahead m made i
+  pub stand : Stand (seeks_pair goal) (range_hit first end next goal cut_of) first end next ahead m made i
   pub told : Told first end next goal cut_of m i
   pub room : length cuts ≡ 51
   pub are : take made cuts ≡ cuts_from cut_of made first
@@ -254,7 +254,7 @@ pub record Sweeping (goal : Goal) (cut_of : ℕ → ℕ) (ahead first end next :
 pub swept-made : (k : Track) (clock : ℕ) (size : Size) (goal : Goal) (key challenge : List ℕ) {maker : Maker} {first end ahead made i : ℕ} {cuts : List ℕ} {m : Met} {o : Outcome}
     → first ≡ first_step k clock size → end ≡ end_step k clock size → ahead ≡ ahead_by goal → maker ≡ maker_of k.scheme
     → Sweeping goal (step_cut maker.algorithm key challenge maker.timed) ahead first end k.next.0 cuts made m i
-    → leb end (first + i + ahead) || (goal.pair && ltb 0 m.fresh) ≡ true → o ≡ met_outcome first ahead m
+    → leb end (first + i + ahead) || (seeks_pair goal && ltb 0 m.fresh) ≡ true → o ≡ met_outcome first ahead m
     → ◌≡◌ {A = Swept} (record { outcome = o; computed = made; fresh = m.fresh }) (swept_by k clock size goal (cut_at k.scheme key challenge))
 swept-made k clock size goal key challenge {maker} {first} ef ee ea em inv ended eo =
     let by : step_cut maker.algorithm key challenge maker.timed ≡ cut_at k.scheme key challenge = rw em in
