@@ -7,7 +7,6 @@ use Rattle.window.specs.declared.Step.{Step}
 use Rattle.window.specs.declared.Offset.{Offset}
 use Rattle.window.specs.PasswordAt.{PasswordRule}
 use Rattle.row.specs.declared.Row.{Row}
-use Rattle.row.specs.declared.reading.Unserved.{Unserved}
 use Rattle.row.specs.Row.{row_bytes, last_state, row_at}
 use Rattle.row.specs.Table.{Place, Sought, find_row, find_empty, located, store_row, wipe_key, write_row}
 use Rattle.token.specs.declared.answers.Content.{Content}

@@ -20,10 +20,8 @@ fn loaded_row(particulars: Particulars, key: &[u8]) -> Row
     requires { length key.now ≤ 32 }
     ensures { result ≡ loaded_row particulars key.now }
 {
-    let scheme = particulars.scheme;
-    let expiry = particulars.expiry;
     let track = Track {
-        scheme,
+        scheme: particulars.scheme,
         period: particulars.period,
         next: Step(0),
         offset: Offset(FARTHEST as u16),
@@ -36,7 +34,7 @@ fn loaded_row(particulars: Particulars, key: &[u8]) -> Row
         key_length: key.len() as u8,
         serial: particulars.serial,
         wait: particulars.wait,
-        expiry,
+        expiry: particulars.expiry,
         locked_at: Seconds(0),
         last_use: Seconds(0),
     }
