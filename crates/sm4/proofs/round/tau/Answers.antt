@@ -4,4 +4,4 @@ use Rattle.sm4.proofs.round.tau.Goals as goal
 
 pub returns : goal.returns
 returns c =
-    tau-sum c.args.x (omega arith) c.substitute-a.ensures.value c.substitute-b.ensures.value c.substitute-c.ensures.value c.substitute-d.ensures.value
+    tau-sum c.args.x (omega arith) c.substitute-a.ensures c.substitute-b.ensures c.substitute-c.ensures c.substitute-d.ensures
