@@ -1,7 +1,8 @@
 -- What each function of the code returns, over what the functions that it calls ensure.
 use Rattle.std.specs.Prelude.{ℕ, suc, Bool, true, false, not, cond, ◌&&◌, ◌||◌, ◌+◌, ◌*◌, ◌-◌, ◌/◌, ◌%◌, ◌^◌, ◌≤◌, ◌<◌, ◌≡◌, refl, List, ◌++◌, length, get_or, set, take, drop, replicate}
-use Rattle.std.proofs.Common.{◌∙◌, append-nil, add-zero, mod-eq_of_lt, add-one, arith, get_or-drop, take-suc-set, take_all}
+use Rattle.std.proofs.Common.{◌∙◌, append-nil, add-zero, add-one, arith, get_or-drop, take-suc-set, take_all}
 use Rattle.std.proofs.Math.Seq.{append_snoc}
+use Rattle.std.specs.Int.{to_be_bytes, w32}
 use Rattle.words.specs.Bytes.{be_at, be_bytes, put_be}
 use Rattle.words.specs.BytesLaws.{word_back}
 use Rattle.sm4.specs.Sbox.{substitute}
@@ -24,13 +25,16 @@ both_right false b bad t = cc
 -- ---- rounds
 
 -- the four bytes of tau, summed in two halves
-pub tau-sum : (x : ℕ) {a b c d : ℕ} → x < 2 ^ 32
-    → a ≡ substitute (x / 16777216) → b ≡ substitute (x / 65536 % 256) → c ≡ substitute (x / 256 % 256) → d ≡ substitute (x % 256)
+pub tau-sum : (x : ℕ) {s : List ℕ} {a b c d : ℕ} → s ≡ to_be_bytes w32 x
+    → a ≡ substitute (get_or s 0 0) → c ≡ substitute (get_or s 2 0) → b ≡ substitute (get_or s 1 0) → d ≡ substitute (get_or s 3 0)
     → (a * 16777216 + c * 256) + (b * 65536 + d) ≡ tau x
 unfolding tau word
-tau-sum x h ea eb ec ed =
-    let e : x / 2 ^ 24 % 256 ≡ x / 16777216 = mod-eq_of_lt (omega arith) in
-    rw (e, ← ea, ← eb, ← ec, ← ed) (omega arith)
+tau-sum x {s} es ea ec eb ed =
+    let first : x / 2 ^ 24 % 256 ≡ get_or s 0 0 = rw es (omega arith) in
+    let second : x / 2 ^ 16 % 256 ≡ get_or s 1 0 = rw es (omega arith) in
+    let third : x / 2 ^ 8 % 256 ≡ get_or s 2 0 = rw es (omega arith) in
+    let last : x % 256 ≡ get_or s 3 0 = rw es (omega arith) in
+    rw (first, second, third, last, ← ea, ← eb, ← ec, ← ed) (omega arith)
 
 -- four steps, one behind the other
 pub four-steps : (lin : ℕ → ℕ) (ks : List ℕ) (i : ℕ) (q : Quad) {r s t u : Quad}
@@ -60,21 +64,19 @@ keys_end ws i q el e =
     let l : length ws ≤ 32 = omega arith in
     rw (e, take_all 32 ws l) (append-nil ws)
 
--- one step more of either side, and its key stored
-module _ (key : List ℕ) (i : ℕ) (x : Quad) {k q k' q' : Quad} (h : i < 32)
-    (ek : k ≡ steps linear_key cks i (masked (words_of key))) (eq : q ≡ steps linear (round_keys key) i x)
-    (ek' : k' ≡ step linear_key (ck i) k) (eq' : q' ≡ step linear k'.d q) where
-  pub side_key : k' ≡ steps linear_key cks (i + 1) (masked (words_of key))
+-- one step more, whose last word is the round key (7.3)
+module _ (key : List ℕ) (i : ℕ) {k next : Quad} (h : i < 32) (ek : k ≡ steps linear_key cks i (masked (words_of key))) (e : next ≡ step linear_key (ck i) k) where
+  pub schedule_more : next ≡ steps linear_key cks (i + 1) (masked (words_of key))
   unfolding steps
-  side_key = rw (add-one, cks-at i h, ← ek) ek'
+  schedule_more = rw (add-one, cks-at i h, ← ek) e
 
-  -- the round key is the last word of the step (7.3)
-  key_made : get_or (round_keys key) i 0 ≡ k'.d
-  key_made = round-key-is key i h ∙ rw (← add-one i, ← side_key)
+  pub key_made : get_or (round_keys key) i 0 ≡ next.d
+  key_made = round-key-is key i h ∙ rw (← add-one i, ← schedule_more)
 
-  pub side_block : q' ≡ steps linear (round_keys key) (i + 1) x
+  -- the round with it
+  pub round_more : (x : Quad) {q r : Quad} → q ≡ steps linear (round_keys key) i x → r ≡ step linear next.d q → r ≡ steps linear (round_keys key) (i + 1) x
   unfolding steps
-  side_block = rw (add-one, key_made, ← eq) eq'
+  round_more x eq er = rw (add-one, key_made, ← eq) er
 
 -- ---- encryption
 

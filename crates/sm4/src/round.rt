@@ -40,11 +40,10 @@ fn substitute(i: u8) -> u8
 fn tau(x: u32) -> u32
     ensures { result ≡ tau x }
 {
-    let a = substitute((x / 16777216) as u8) as u32;
-    let b = substitute((x / 65536 % 256) as u8) as u32;
-    let c = substitute((x / 256 % 256) as u8) as u32;
-    let d = substitute((x % 256) as u8) as u32;
-    (a * 16777216 + c * 256) + (b * 65536 + d)
+    let [a, b, c, d] = x.to_be_bytes();
+    let ac = substitute(a) as u32 * 0x100_0000 + substitute(c) as u32 * 0x100;
+    let bd = substitute(b) as u32 * 0x1_0000 + substitute(d) as u32;
+    ac + bd
 }
 
 // What a round of the cipher and one of the key schedule differ in: the linear transformation.

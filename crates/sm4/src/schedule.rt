@@ -1,6 +1,6 @@
 // The key schedule (GB/T 32907, 7.3).
-ghost use Rattle.std.specs.Prelude.{◌≡◌};
-ghost use Rattle.sm4.specs.Sm4.{masked, keys_from, keys_answer};
+ghost use Rattle.std.specs.Prelude.{◌≡◌, ◌<◌, length, slice_set};
+ghost use Rattle.sm4.specs.Sm4.{linear_key, step, ck, masked, keys_from, keys_answer};
 
 use crate::parameters::CK;
 use crate::round::{Expansion, Quad, words_of};
@@ -18,15 +18,26 @@ pub fn masked(q: Quad) -> Quad
     }
 }
 
-// The 32 round keys: the last word after each step.
+// Step i of the schedule (a)). The last word, which is round key i, is stored.
+pub fn next_key(q: Quad, i: usize, keys: &mut [u32]) -> Quad
+    requires i_bound { i < 32 }
+    requires keys_len { length keys.old ≡ 32 }
+    ensures value { result ≡ step linear_key (ck i) q }
+    ensures keys_after { keys.new ≡ slice_set keys.old i result.d }
+{
+    let next = q.step::<Expansion>(CK[i]);
+    keys[i] = next.d;
+    next
+}
+
+// The 32 round keys.
 fn keys_from(start: Quad) -> [u32; 32]
     ensures { result ≡ keys_from 32 0 start }
 {
     let mut words = [0u32; 32];
     let mut q = start;
     for i in 0..32 {
-        q = q.step::<Expansion>(CK[i]);
-        words[i] = q.d;
+        q = next_key(q, i, &mut words);
     }
     words
 }

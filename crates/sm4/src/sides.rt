@@ -3,9 +3,8 @@ ghost use Rattle.std.specs.Prelude.{◌≡◌, length};
 ghost use Rattle.sm4.specs.Sm4.{linear, steps, round_keys, sm4_answer};
 
 use crate::encryption::reversed;
-use crate::parameters::CK;
-use crate::round::{Encryption, Expansion, Quad, words_of};
-use crate::schedule::masked;
+use crate::round::{Encryption, Quad, words_of};
+use crate::schedule::{masked, next_key};
 use words::codes::BadArgument;
 
 // The state after the rounds, of a block's four words. Each round key is left in keys.
@@ -18,8 +17,7 @@ pub fn sides_from(key: &[u8], block: Quad, keys: &mut [u32]) -> Quad
     let mut k = masked(words_of(key));
     let mut q = block;
     for i in 0..32 {
-        k = k.step::<Expansion>(CK[i]);
-        keys[i] = k.d;
+        k = next_key(k, i, keys);
         q = q.step::<Encryption>(k.d);
     }
     q

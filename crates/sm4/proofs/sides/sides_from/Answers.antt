@@ -1,7 +1,6 @@
-use Rattle.std.proofs.Common.{◌≡◌, ◌∙◌, ap, sym, refl, arith, length-set}
-use Rattle.sm4.specs.Sm4.{linear_key, step, steps, round_keys}
-use Rattle.sm4.specs.Sm4Laws.{table-at}
-use Rattle.sm4.specs.EncryptLaws.{keys_more, keys_end, side_key, side_block}
+use Rattle.std.proofs.Common.{◌≡◌, ◌∙◌, sym, refl, arith, length-set}
+use Rattle.sm4.specs.Sm4.{steps, round_keys}
+use Rattle.sm4.specs.EncryptLaws.{keys_more, keys_end, schedule_more, round_more}
 use Rattle.sm4.proofs.sides.sides_from.Goals as goal
 
 pub loop-i-init : goal.loop-i-init
@@ -13,13 +12,13 @@ pub loop-i-preserved : goal.loop-i-preserved
 loop-i-preserved c =
     let inv = c.loop-i.invariant in
     let h = c.loop-i-test.true in
-    let next = c.step-k.ensures ∙ ap (λ k. step linear_key k c.loop-i.k) (table-at c.loop-i.i h) in
-    record {
-      expanded = side_key c.args.key.now c.loop-i.i c.args.block h inv.expanded inv.encrypted next c.step-q.ensures;
-      encrypted = side_block c.args.key.now c.loop-i.i c.args.block h inv.expanded inv.encrypted next c.step-q.ensures;
+    let next = c.next_key-k.ensures.value in
+    rw c.next_key-k.ensures.keys_after (record {
+      expanded = schedule_more c.args.key.now c.loop-i.i h inv.expanded next;
+      encrypted = round_more c.args.key.now c.loop-i.i h inv.expanded next c.args.block inv.encrypted c.step-q.ensures;
       all = rw length-set inv.all;
       left = keys_more c.loop-i.keys c.loop-i.i c.loop-i.k inv.all h next ∙ inv.left;
-    }
+    })
 
 pub returns : goal.returns
 returns c =
