@@ -9,7 +9,7 @@ use crate::cuts::{first_cut, first_cuts, five_cuts, one_cut, three_cuts, two_cut
 use crate::prepared::{ciphered, count_at, hashed, time_at};
 use crate::steps::hashed_cuts;
 use sm4::round_keys;
-use words::word::copy_words;
+use words::bytes::copy;
 
 // How a token's steps are cut: by which algorithm, and whether a step is a time T or a count C.
 #[derive(Clone, Copy)]
@@ -41,7 +41,7 @@ fn put_hashed(maker: Maker, key: &[u8], challenge: &[u8], s: u64, out: &mut [u32
     if (challenge.len() == 0) & (2 <= out.len()) {
         let n = smaller(4, out.len());
         let cuts = hashed_cuts(key, timed, s, n);
-        copy_words(&cuts[0..n], out);
+        copy(&cuts[0..n], out);
         return n;
     }
     out[0] = hashed(key, time_at(timed, s), count_at(timed, s), challenge);
@@ -58,15 +58,15 @@ fn put_keyed(keys: &[u32], timed: bool, s: u64, out: &mut [u32]) -> usize
     ensures put { Put (cut_by keys.now timed) result s out.old out.new }
 {
     if 5 <= out.len() {
-        copy_words(&five_cuts(keys, timed, s), out);
+        copy(&five_cuts(keys, timed, s), out);
         return 5;
     }
     if 3 <= out.len() {
-        copy_words(&three_cuts(keys, timed, s), out);
+        copy(&three_cuts(keys, timed, s), out);
         return 3;
     }
     if 2 <= out.len() {
-        copy_words(&two_cuts(keys, timed, s), out);
+        copy(&two_cuts(keys, timed, s), out);
         return 2;
     }
     out[0] = one_cut(keys, timed, s);
@@ -122,11 +122,11 @@ fn put_first(
     }
     if 0 < challenge.len() {
         let keys = round_keys(&key[0..16]).words;
-        copy_words(&keys, ready);
+        copy(&keys, ready);
         return 0;
     }
     if 3 <= out.len() {
-        copy_words(&first_cuts(key, maker.timed, s, ready), out);
+        copy(&first_cuts(key, maker.timed, s, ready), out);
         return 3;
     }
     out[0] = first_cut(key, maker.timed, s, ready);
