@@ -65,29 +65,12 @@ fn put_keyed(keys: &[u32], timed: bool, s: u64, out: &mut [u32]) -> usize
     ensures upper_bound { result ≤ 5 }
     ensures put { Put (cut_by keys.now timed) result s out.old out.new }
 {
-<<<<<<< HEAD
     match out.len() {
         1 => put_side_by_side::<1>(keys, timed, s, out),
         2 => put_side_by_side::<2>(keys, timed, s, out),
         3 | 4 => put_side_by_side::<3>(keys, timed, s, out),
         _ => put_side_by_side::<5>(keys, timed, s, out),
     }
-=======
-    if 5 <= out.len() {
-        copy(&five_cuts(keys, timed, s), out);
-        return 5;
-    }
-    if 3 <= out.len() {
-        copy(&three_cuts(keys, timed, s), out);
-        return 3;
-    }
-    if 2 <= out.len() {
-        copy(&two_cuts(keys, timed, s), out);
-        return 2;
-    }
-    out[0] = one_cut(keys, timed, s);
-    1
->>>>>>> 4eceda884bfaa155f0b5837b5b5c7d0f7379f262
 }
 
 // Puts the cuts of some steps from s on at the front of out, and answers how many: by SM4 with a challenge one.
@@ -159,21 +142,11 @@ fn put_first(
         return 0;
     }
     if 0 < challenge.len() {
-<<<<<<< HEAD
         copy(&round_keys(&key[0..16]).unwrap(), ready);
         return 0;
     }
     if out.len() < 3 {
         return put_fresh::<1>(key, maker.timed, s, ready, out);
-=======
-        let keys = round_keys(&key[0..16]).words;
-        copy(&keys, ready);
-        return 0;
-    }
-    if 3 <= out.len() {
-        copy(&first_cuts(key, maker.timed, s, ready), out);
-        return 3;
->>>>>>> 4eceda884bfaa155f0b5837b5b5c7d0f7379f262
     }
     put_fresh::<3>(key, maker.timed, s, ready, out)
 }
