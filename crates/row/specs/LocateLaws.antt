@@ -1,7 +1,7 @@
 -- The ways through the locating of a row, and what each of its answers says.
 use Rattle.std.specs.Prelude.{ℕ, ◌+◌, ◌≤◌, ◌≡◌, refl, Bool, List, get_or, Some, None, Ok, Err}
 use Rattle.std.proofs.Math.Path.{sym}
-use Rattle.std.proofs.Common.{ap, ◌∙◌}
+use Rattle.std.proofs.Common.{◌∙◌}
 use Rattle.std.proofs.Math.Bool.{true, false}
 use Rattle.words.specs.BoolLaws.{by-test, impossible}
 use Rattle.row.specs.declared.Row.{Row}

@@ -1,8 +1,8 @@
 -- The sweep up the candidates finds what the check's definition says, and computes exactly the candidates that it should.
-use Rattle.std.specs.Prelude.{ℕ, zero, suc, ◌+◌, ◌-◌, ◌^◌, ◌≤◌, ◌<◌, min, ◌≡◌, refl, Bool, true, false, cond, ◌&&◌, ◌||◌, List, ◌++◌, eqb, leb, ltb, length, get_or, take}
-use Rattle.std.proofs.Common.{sym, ap, ap₂, ◌∙◌, append_assoc, add-zero, arith, leb-true, leb-false, ltb-true, ltb-false, le-leb, lt-ltb, le-ltb, take_at, get_or-take}
+use Rattle.std.specs.Prelude.{ℕ, zero, suc, ◌+◌, ◌-◌, ◌^◌, ◌≤◌, ◌<◌, min, ◌≡◌, refl, Bool, true, false, cond, ◌&&◌, ◌||◌, List, ◌++◌, eqb, leb, ltb, length, get_or, take, drop}
+use Rattle.std.proofs.Common.{sym, ap, ap₂, ◌∙◌, append_assoc, add-zero, arith, leb-true, leb-false, ltb-true, ltb-false, le-leb, lt-ltb, le-ltb, take_at, get_or-take, length-take-le, length-drop}
 use Rattle.std.proofs.lemmas.Bool.{lt-leb}
-use Rattle.words.specs.BoolLaws.{by-test, either-by, and_right, and_false, clash}
+use Rattle.words.specs.BoolLaws.{by-test, either-by, and_right, and_false, or_true, clash}
 use Rattle.otp.specs.declared.lists.Maker.{Maker}
 use Rattle.otp.specs.StepCuts.{cuts_from}
 use Rattle.otp.specs.StepCutsLaws.{length-cuts_from, cuts_from-at, cuts_from-append}
@@ -22,7 +22,7 @@ use Rattle.window.proofs.CheckLaws.{misses_leave, same-past, checked_miss, check
 use Rattle.window.specs.Goal.{seeks_pair, ahead_by, hits, more_sure, maker_of, cut_at}
 use Rattle.window.specs.GoalLaws.{more_left, more_hit}
 use Rattle.window.proofs.ManyLaws.{many-next, many_miss, many-none, many-agree}
-use Rattle.window.proofs.StandLaws.{within, Stand, some_left, for_pair, stand-made}
+use Rattle.window.proofs.StandLaws.{within, Stand, still_inside, some_left, here-made, one-ahead, stand-made, stand-met}
 use Rattle.window.specs.Sweep.{swept_to, computed_to, acceptances, goal_hit, goal_found, goal_fresh, goal_outcome, swept_by, met_by, unaccepted, met_once, met_outcome}
 
 -- ---- what was met, a place higher: of several fresh hits nothing is said
@@ -280,3 +280,60 @@ module _ (cut_of : ℕ → ℕ) (first : ℕ) where
 
   pub cut-read : (made : ℕ) (cuts : List ℕ) (i : ℕ) → take made cuts ≡ cuts_from cut_of made first → i < made → get_or cuts i 0 ≡ cut_of (first + i)
   cut-read made cuts i e l = sym (get_or-take made cuts i 0 l) ∙ ap (λ (x : List ℕ). get_or x i 0) e ∙ cuts_from-at cut_of made first i l
+
+-- ---- one turn of the loop
+
+module _ {goal : Goal} {cut_of : ℕ → ℕ} {ahead first end next made i : ℕ} {cuts : List ℕ} {m : Met} (inv : Sweeping goal cut_of ahead first end next cuts made m i)
+    (still : leb end (first + i + ahead) || (seeks_pair goal && ltb 0 m.fresh) ≡ false) where
+  -- the cuts that place i needs are made
+  pub record Reached (wider : List ℕ) (all : ℕ) : Type 0 where
+    pub sweeping : Sweeping goal cut_of ahead first end next wider all m i
+    pub enough : i + ahead < all
+
+  pub enough-made : {wider : List ℕ} {all : ℕ} → i + ahead < made → wider ≡ cuts → all ≡ made → Reached wider all
+  enough-made l ew ea = rw (ew, ea) (record { sweeping = inv; enough = l })
+
+  pub more-made : (rest : List ℕ) {more all : ℕ} {part wider : List ℕ} → made ≤ i + ahead
+      → (more ≡ more_sure goal (get_or cuts i 0) (end - (first + made))) × ((1 ≤ more) × (more ≤ 2))
+      → part ≡ cuts_from cut_of (length (take (made + more - made) (drop made cuts))) (first + made)
+      → wider ≡ take made cuts ++ (part ++ rest) → length wider ≡ length cuts → all ≡ made + more → Reached wider all
+  more-made rest {more} short em ep ew el ea =
+      let here = here-made inv.stand still short in
+      let stand = more_stand first end next goal cut_of inv.stand still short (cut-read cut_of first made cuts i inv.are here) em in
+      let as_many = length-take-le (made + more - made) (drop made cuts) (rw (length-drop, inv.room) (omega (arith, stand.most, stand.few))) in
+      rw ea (record {
+        sweeping = record { stand = stand; told = inv.told; room = el ∙ inv.room; are = rw ew (more_put cut_of first made more cuts rest inv.are as_many ep) };
+        enough = omega (arith, here, one-ahead inv.stand still short, em.1.0);
+      })
+
+  -- place i is looked at
+  pub looked-at : {wider : List ℕ} {all : ℕ} → Reached wider all → {h : Bool} {after : Met} → h ≡ hits goal (get_or wider i 0) (get_or wider (i + ahead) 0)
+      → after ≡ met_by m h (leb next (first + i)) (eqb (first + i + 1) next) i → Sweeping goal cut_of ahead first end next wider all after (i + 1)
+  looked-at {wider} {all} r {h} eh em =
+      let now = r.sweeping in
+      let x = cut-read cut_of first all wider i now.are (omega (arith, r.enough)) in
+      let y = cut-read cut_of first all wider (i + ahead) now.are r.enough in
+      let hit = place_hit first end next goal cut_of i now.stand.stands (still_inside now.stand still) x y eh in
+      record {
+        stand = rw em (stand-met now.stand still h _ hit r.enough);
+        told = rw em (told-next first end next goal cut_of m i hit now.told);
+        room = now.room;
+        are = now.are;
+      }
+
+-- what was met lies no higher
+pub met-below : (m after : Met) (hit fresh last : Bool) (i : ℕ) → after ≡ met_by m hit fresh last i → m.at ≤ i → after.at ≤ i
+met-below m after hit fresh last i e l = rw e (by_hit hit fresh)
+  where
+    by_hit : (hit fresh : Bool) → (met_by m hit fresh last i).at ≤ i
+    by_hit false fresh = l
+    by_hit true false = l
+    by_hit true true = omega arith
+
+-- the places are at an end
+pub all-placed : (first end ahead i : ℕ) (hit : Bool) → end - first - ahead ≤ i → leb end (first + i + ahead) || hit ≡ true
+all-placed first end ahead i hit l = rw (le-leb end (first + i + ahead) (omega arith))
+
+-- or a pair hit
+pub pair-met : (goal : Goal) (m : Met) (looked : Bool) → seeks_pair goal ≡ true → 0 < m.fresh → looked || (seeks_pair goal && ltb 0 m.fresh) ≡ true
+pair-met goal m looked p l = rw (p, lt-ltb 0 m.fresh l) (or_true looked)

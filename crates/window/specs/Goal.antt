@@ -1,5 +1,5 @@
 -- What is searched for: the numbers of the presented passwords, and which cuts of steps have them.
-use Rattle.std.specs.Prelude.{ℕ, ◌%◌, ◌^◌, Bool, true, false, cond, ◌&&◌, ◌||◌, List, eqb, ltb, Option, Some, None, is_some}
+use Rattle.std.specs.Prelude.{ℕ, ◌%◌, ◌^◌, Bool, true, cond, ◌&&◌, ◌||◌, List, eqb, ltb, Option, Some, None, is_some}
 use Rattle.otp.specs.declared.typed.Password.{Password}
 use Rattle.otp.specs.declared.lists.Maker.{Maker}
 use Rattle.otp.specs.CutLists.{step_cut}
