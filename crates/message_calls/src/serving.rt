@@ -72,17 +72,13 @@ fn serve_call(table: &mut [u8], framed: &Framed, service: Service, clock: Second
 pub fn serve_message(table: &mut [u8], message: &[u8], clock: Seconds) -> Answer
     ensures { result_of result table.new ≡ read_after password_at (message_reads message.now clock.0) table.old }
 {
-    let Some(framed) = frame_of(message) else {
-        return Answer::Refused(Refusal::BadMessage);
-    };
+    let framed = frame_of(message).ok_or(Refusal::BadMessage)?;
     if framed.is_reply() | misfits(&framed) {
-        return Answer::Refused(Refusal::BadMessage);
+        return Err(Refusal::BadMessage);
     }
     if !framed.mac_fits() {
-        return Answer::Refused(Refusal::BadMac);
+        return Err(Refusal::BadMac);
     }
-    let Some(service) = service_of(framed.heading().service) else {
-        return Answer::Refused(Refusal::NoService);
-    };
+    let service = service_of(framed.heading().service).ok_or(Refusal::NoService)?;
     serve_call(table, &framed, service, clock)
 }
