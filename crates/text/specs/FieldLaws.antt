@@ -1,5 +1,5 @@
 -- What the functions on fields return, over what the functions that they call ensure.
-use Rattle.std.specs.Prelude.{◌≡◌, ℕ, zero, suc, ◌+◌, ◌-◌, ◌<◌, ◌≤◌, true, false, List, ◌++◌, length, take, drop, replicate, ◌==◌, ◌≢◌, nat_eq, nat_lt, slice_set}
+use Rattle.std.specs.Prelude.{◌≡◌, ℕ, zero, suc, ◌+◌, ◌-◌, ◌<◌, ◌≤◌, true, List, ◌++◌, length, take, drop, ◌==◌, ◌≢◌, nat_eq, nat_lt, slice_set, Some, None}
 use Rattle.std.proofs.Common.{sym, ◌∙◌, add-one, drop_of_length-le}
 use mathlib.Core.List.{append-nil}
 use Rattle.std.proofs.Math.Nat.{add-zero}
@@ -14,7 +14,6 @@ use Rattle.text.specs.Text.{comma, fields_of, field_end, field_at, ends_from, sp
 use Rattle.text.specs.Steps.{start_after, ends_after}
 use Rattle.text.specs.TextLaws.{end-le, fields_positive, fields-from}
 use Rattle.text.specs.declared.fields.Field.{Field}
-use Rattle.text.specs.declared.fields.Split.{Split}
 
 module _ (line : List ℕ) (start : ℕ) where
   pub field_past : length line < start → ◌≡◌ {A = Field} (record { start = start; end = start }) (field_at line start)
@@ -118,11 +117,11 @@ module _ (line ends : List ℕ) (start i : ℕ) (walked : Walked line ends start
   six-test : nat_eq (length (fields_of line)) 6 ≡ (start == length line + 1)
   six-test = rw (start_walked line ends start i walked over) (sym (counted line 5 0 (omega arith)))
 
-  pub split-other : (start ≢ length line + 1) → ◌≡◌ {A = Split} (record { ok = false; ends = replicate 6 0 }) (split_of line)
+  pub split-other : (start ≢ length line + 1) → None ≡ split_of line
   unfolding split_of
   split-other n = rw (six-test, ne_eqb start (length line + 1) n)
 
-  pub split_done : start ≡ length line + 1 → ◌≡◌ {A = Split} (record { ok = true; ends = ends }) (split_of line)
+  pub split_done : start ≡ length line + 1 → Some ends ≡ split_of line
   unfolding split_of
   split_done e =
       let six : nat_eq (length (fields_of line)) 6 ≡ true = six-test ∙ eq-eqb start (length line + 1) e in

@@ -13,13 +13,6 @@ pub struct Field {
     pub end: usize,
 }
 
-// Whether a line has six fields, and the places where they end; six zeros where it has not.
-#[derive(Clone, Copy)]
-pub struct Split {
-    pub ok: bool,
-    pub ends: [usize; 6],
-}
-
 // The field that starts at start: it ends at the next comma, or at the line's end.
 pub fn field_at(line: &[u8], start: usize) -> Field
     ensures { result ≡ field_at line.now start }
@@ -31,26 +24,22 @@ pub fn field_at(line: &[u8], start: usize) -> Field
     Field { start, end }
 }
 
-// The line in six fields, each from past the comma that ends the one before it.
-// A caller reads `let end = ends[i]` and lends `&line[start..end]`; `six-fields` of specs/TextLaws.antt says of an ok answer that these parts
-// are the fields and lie in the line, and `other-fields` of another that the fields are not six.
-pub fn split_six(line: &[u8]) -> Split
+// Where the six fields of the line end, each from past the comma that ends the one before it; none where it has another count of fields.
+// A caller lends `&line[start..end]`; `six-fields` of specs/TextLaws.antt says that these parts are the fields and lie in the line, and
+// `other-fields` of no answer that the fields are not six.
+pub fn split_six(line: &[u8]) -> Option<[usize; 6]>
     ensures { result ≡ split_of line.now }
 {
-    let mut ends = [0usize; 6];
+    let mut ends = [0; 6];
     let mut start = 0;
-    let mut i = 0;
-    while i < 6 {
+    for i in 0..6 {
         let end = field_at(line, start).end;
         ends[i] = end;
         start = end + 1;
-        i += 1;
     }
-    if start != line.len() + 1 {
-        return Split {
-            ok: false,
-            ends: [0usize; 6],
-        };
+    if start == line.len() + 1 {
+        Some(ends)
+    } else {
+        None
     }
-    Split { ok: true, ends }
 }

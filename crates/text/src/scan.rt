@@ -34,12 +34,10 @@ fn find_each(s: &[u8], from: usize, to: usize, b: u8) -> usize
     ensures value { result ≡ from + index_of b (slice from to s.now) }
     ensures upper_bound { result ≤ to }
 {
-    let mut at = from;
-    while at < to {
+    for at in from..to {
         if s[at] == b {
             return at;
         }
-        at += 1;
     }
     to
 }

@@ -9,7 +9,7 @@ pub loop-i-preserved : goal.loop-i-preserved
 loop-i-preserved c = walked_more c.args.line.now c.loop-i.ends c.loop-i.start c.loop-i.i c.loop-i.invariant c.loop-i-test.true c.field_at-end.ensures
 
 pub returns-then-start-line : goal.returns-then-start-line
-returns-then-start-line c = split-other c.args.line.now c.loop-i.ends c.loop-i.start c.loop-i.i c.loop-i.invariant c.loop-i-test.false c.if-start-line.true
+returns-then-start-line c = split_done c.args.line.now c.loop-i.ends c.loop-i.start c.loop-i.i c.loop-i.invariant c.loop-i-test.false c.if-start-line.true
 
-pub returns : goal.returns
-returns c = split_done c.args.line.now c.loop-i.ends c.loop-i.start c.loop-i.i c.loop-i.invariant c.loop-i-test.false c.if-start-line.false
+pub returns-else-start-line : goal.returns-else-start-line
+returns-else-start-line c = split-other c.args.line.now c.loop-i.ends c.loop-i.start c.loop-i.i c.loop-i.invariant c.loop-i-test.false c.if-start-line.false
