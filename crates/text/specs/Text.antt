@@ -109,12 +109,3 @@ field_end line start = start + index_of comma (drop start line)
 
 abbrev pub field_at : List ℕ → ℕ → Field
 field_at line start = record { start = start; end = field_end line start }
-
--- where the fields end, the first of them at start
-unfoldable pub ends_from : ℕ → List (List ℕ) → List ℕ
-ends_from start [] = []
-ends_from start (f ∷ fs) = (start + length f) ∷ ends_from (start + length f + 1) fs
-
--- where the six fields end; a line with another count of fields has none
-unfoldable pub split_of : List ℕ → Option (List ℕ)
-split_of line = cond (length (fields_of line) == 6) (Some (ends_from 0 (fields_of line))) None

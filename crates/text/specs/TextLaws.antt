@@ -1,14 +1,14 @@
 -- What a line program needs of decimal numbers, hexadecimal bytes and fields.
-use Rattle.std.specs.Prelude.{◌≡◌, ℕ, suc, ◌+◌, ◌-◌, ◌*◌, ◌/◌, ◌%◌, ◌^◌, ◌<◌, ◌≤◌, max, Bool, true, false, cond, ◌&&◌, List, [], ◌∷◌, ◌++◌, map, length, take, drop, ◌==◌, ◌≢◌, nat_eq, nat_le, nat_lt, slice_index, slice_index_or, slice_range, Option, Some, None}
+use Rattle.std.specs.Prelude.{◌≡◌, ℕ, suc, ◌+◌, ◌-◌, ◌*◌, ◌/◌, ◌%◌, ◌^◌, ◌<◌, ◌≤◌, max, Bool, true, false, cond, ◌&&◌, List, [], ◌∷◌, ◌++◌, map, length, take, drop, ◌==◌, ◌≢◌, nat_eq, nat_le, nat_lt, Option, Some, None}
 use Rattle.std.proofs.Math.Path.{refl}
 use Rattle.std.proofs.Common.{sym, ap, ◌∙◌, mul_assoc, mul-le-mul_right, le-add_right, le_trans, zero-lt-suc, add-one, arith, lt-ltb, le-ltb, le-leb, leb-true, ltb-true, ltb-false, eqb-true, length-append, length-drop, drop-drop}
 use Rattle.std.proofs.Math.Nat.{pow-succ', pow-le-pow_right}
 use Rattle.std.proofs.lemmas.Bool.{eqb-false}
 use Rattle.std.proofs.Math.Dec.{leb-suc-suc}
-use Rattle.std.proofs.Math.Seq.{take-append_seam, drop-append_seam}
+use Rattle.std.proofs.Math.Seq.{take-append_seam}
 use Rattle.words.specs.BoolLaws.{by-test, and_left, and_right, impossible}
 use Rattle.words.specs.Search.{index_of, index_after}
-use Rattle.text.specs.Text.{digit_value, digits_from, decimal_of, bounded, number_in, byte_then, hex_of, decoded, decoded_of, HexLeft, hex_left, put_front, hex_into, comma, longer, fields_of, behind_commas, joined, sum_lengths, field_end, ends_from, split_of}
+use Rattle.text.specs.Text.{digit_value, digits_from, decimal_of, bounded, number_in, byte_then, hex_of, decoded, decoded_of, HexLeft, hex_left, put_front, hex_into, comma, longer, fields_of, behind_commas, joined, sum_lengths, field_end}
 use Rattle.text.specs.Steps.{all_hex, pairs_of}
 
 none-some : {A B : Type 0} {a : A} → ◌≡◌ {A = Option A} None (Some a) → B
@@ -191,7 +191,7 @@ module _ (s out : List ℕ) {r : Option ℕ} {after : List ℕ} (read : hex_left
 -- ---- fields
 
 -- the first field is what stands before the first comma
-fields-first : (s : List ℕ)
+pub fields-first : (s : List ℕ)
     → fields_of s ≡ take (index_of comma s) s ∷ cond (nat_lt (index_of comma s) (length s)) (fields_of (drop (index_of comma s + 1) s)) []
 unfolding fields_of longer index_of index_after
 fields-first [] = refl
@@ -257,79 +257,3 @@ fields-from line start l =
         by-test (nat_lt n (length (drop start line)))
         (λ t. t ∙ sym (lt-ltb (start + n) (length line) (omega (arith, ltb-true n (length (drop start line)) t))))
         (λ f. f ∙ sym (le-ltb (start + n) (length line) (omega (arith, ltb-false n (length (drop start line)) f))))
-
--- ---- six fields
-
--- the parts of the line that end at the places, the first of them from start on
-parts_from : List ℕ → ℕ → List ℕ → List (List ℕ)
-parts_from line start [] = []
-parts_from line start (e ∷ es) = slice_range line start e ∷ parts_from line (e + 1) es
-
--- the fields of a line are found again by where they end
-parts_found : (line f : List ℕ) (fs : List (List ℕ)) (start : ℕ) → drop start line ≡ joined (f ∷ fs) → parts_from line start (ends_from start (f ∷ fs)) ≡ f ∷ fs
-unfolding parts_from ends_from joined behind_commas
-parts_found line f [] start e =
-    let n : start + length f - start ≡ length f = omega arith in
-    rw (n, e, take-append_seam f [])
-parts_found line f (g ∷ gs) start e =
-    let n : start + length f - start ≡ length f = omega arith in
-    let next : drop (start + length f + 1) line ≡ joined (g ∷ gs) =
-    rw (← drop-drop 1 (start + length f) line, ← drop-drop (length f) start line, e, drop-append_seam f (comma ∷ (g ++ behind_commas gs))) in
-    rw (n, parts_found line g gs (start + length f + 1) next, e, take-append_seam f (comma ∷ (g ++ behind_commas gs)))
-
--- what `split_six` says of a line of six fields: the fields are the parts between the ends, and each part lies in the line
-pub record SixFields (line ends : List ℕ) : Type 0 where
-  pub fields : fields_of line
-      ≡ take (slice_index ends 0) line
-      ∷ take (slice_index ends 1 - (slice_index ends 0 + 1)) (drop (slice_index ends 0 + 1) line)
-      ∷ take (slice_index ends 2 - (slice_index ends 1 + 1)) (drop (slice_index ends 1 + 1) line)
-      ∷ take (slice_index ends 3 - (slice_index ends 2 + 1)) (drop (slice_index ends 2 + 1) line)
-      ∷ take (slice_index ends 4 - (slice_index ends 3 + 1)) (drop (slice_index ends 3 + 1) line)
-      ∷ take (slice_index ends 5 - (slice_index ends 4 + 1)) (drop (slice_index ends 4 + 1) line)
-      ∷ []
-  pub second : slice_index_or ends 0 0 < slice_index ends 1
-  pub third : slice_index_or ends 1 0 < slice_index ends 2
-  pub fourth : slice_index_or ends 2 0 < slice_index ends 3
-  pub fifth : slice_index_or ends 3 0 < slice_index ends 4
-  pub sixth : slice_index_or ends 4 0 < slice_index ends 5
-  pub whole : slice_index_or ends 5 0 ≡ length line
-
-six-by : (line : List ℕ) (fs : List (List ℕ)) → fields_of line ≡ fs → length fs ≡ 6 → SixFields line (ends_from 0 fs)
-unfolding ends_from parts_from sum_lengths
-six-by line (a ∷ b ∷ c ∷ d ∷ e ∷ f ∷ []) p l =
-    let whole = rw p at (length_fields line) in
-    let z : 0 + length a - 0 ≡ 0 + length a = omega arith in
-    let found = parts_found line a (b ∷ c ∷ d ∷ e ∷ f ∷ []) 0 (sym (rw p at (fields-joined line))) in
-    record {
-      fields = p ∙ sym (rw z at found);
-      second = omega arith;
-      third = omega arith;
-      fourth = omega arith;
-      fifth = omega arith;
-      sixth = omega arith;
-      whole = omega arith;
-    }
-six-by line [] p l = absurd (omega arith)
-six-by line (a ∷ []) p l = absurd (omega arith)
-six-by line (a ∷ b ∷ []) p l = absurd (omega arith)
-six-by line (a ∷ b ∷ c ∷ []) p l = absurd (omega arith)
-six-by line (a ∷ b ∷ c ∷ d ∷ []) p l = absurd (omega arith)
-six-by line (a ∷ b ∷ c ∷ d ∷ e ∷ []) p l = absurd (omega arith)
-six-by line (a ∷ b ∷ c ∷ d ∷ e ∷ f ∷ g ∷ fs) p l = absurd (omega arith)
-
-module _ (line : List ℕ) {r : Option (List ℕ)} (split : r ≡ split_of line) where
-  pub six-fields : {ends : List ℕ} → r ≡ Some ends → SixFields line ends
-  unfolding split_of
-  six-fields {ends} t =
-      by-test (length (fields_of line) == 6)
-      (λ s. let e : Some (ends_from 0 (fields_of line)) ≡ Some ends = rw (split, s) at t in
-      let same : ends_from 0 (fields_of line) ≡ ends = cc in
-      rw (← same) (six-by line (fields_of line) refl (eqb-true (length (fields_of line)) 6 s)))
-      (λ s. let z : None ≡ Some ends = rw (split, s) at t in impossible (cc))
-
-  pub other-fields : r ≡ None → (length (fields_of line) == 6) ≡ false
-  unfolding split_of
-  other-fields t =
-      by-test (length (fields_of line) == 6)
-      (λ s. let z : Some (ends_from 0 (fields_of line)) ≡ None = rw (split, s) at t in impossible (cc))
-      (λ s. s)

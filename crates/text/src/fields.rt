@@ -1,6 +1,6 @@
 // The fields of a line: the parts between its commas.
-ghost use Rattle.std.specs.Prelude.{◌≡◌};
-ghost use Rattle.text.specs.Text.{field_at, split_of};
+ghost use Rattle.std.specs.Prelude.{◌≡◌, [], ◌∷◌, IfNone, IfSome};
+ghost use Rattle.text.specs.Text.{fields_of, field_at};
 
 use crate::scan::find;
 
@@ -24,22 +24,14 @@ pub fn field_at(line: &[u8], start: usize) -> Field
     Field { start, end }
 }
 
-// Where the six fields of the line end, each from past the comma that ends the one before it; none where it has another count of fields.
-// A caller lends `&line[start..end]`; `six-fields` of specs/TextLaws.antt says that these parts are the fields and lie in the line, and
-// `other-fields` of no answer that the fields are not six.
-pub fn split_six(line: &[u8]) -> Option<[usize; 6]>
-    ensures { result ≡ split_of line.now }
+// The first field of the line, and what stands behind the comma that ends it.
+pub fn first_field(line: &[u8]) -> (&[u8], Option<&[u8]>)
+    ensures last { IfNone result.1 (fields_of line.now ≡ result.0.now ∷ []) }
+    ensures more { IfSome result.1 (λ rest. fields_of line.now ≡ result.0.now ∷ fields_of rest.now) }
 {
-    let mut ends = [0; 6];
-    let mut start = 0;
-    for i in 0..6 {
-        let end = field_at(line, start).end;
-        ends[i] = end;
-        start = end + 1;
+    let end = find(line, 0, line.len(), COMMA);
+    if end == line.len() {
+        return (line, None);
     }
-    if start == line.len() + 1 {
-        Some(ends)
-    } else {
-        None
-    }
+    (&line[..end], Some(&line[end + 1..]))
 }

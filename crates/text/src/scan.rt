@@ -50,6 +50,7 @@ pub fn find(s: &[u8], from: usize, to: usize, b: u8) -> usize
     ensures upper_bound { result ≤ to }
 {
     let mut at = from;
+    // A step is eight bytes, and the last few are left: a range by `step_by` has no end to say so plainly.
     while at + 8 <= to {
         let found = marks(s, at, b);
         if found != 0 {
