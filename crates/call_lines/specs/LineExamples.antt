@@ -1,12 +1,12 @@
 -- Worked examples, computed.
-use Rattle.std.specs.Prelude.{ℕ, ◌≡◌, refl, List, [], ◌∷◌, ◌++◌, map}
+use Rattle.token.specs.Answers.{successful}
+use Rattle.std.specs.Prelude.{ℕ, ◌≡◌, refl, List, [], ◌∷◌, ◌++◌, map, Err}
 use Rattle.words.specs.Lists.{same_bytes}
 use Rattle.words.specs.Bytes.{be_at}
 use Rattle.text.specs.Text.{digit_value, digits_from, decimal_of, byte_then, hex_of, longer, fields_of}
 use Rattle.otp.specs.Typed.{as_password}
 use Rattle.token.specs.declared.answers.Content.{Content}
 use Rattle.token.specs.declared.answers.Refusal.{Refusal}
-use Rattle.token.specs.declared.answers.Answer.{Answer}
 use Rattle.token.specs.declared.lines.Request.{Request}
 use Rattle.token.specs.Lines.{line_of}
 use Rattle.token.specs.Codes.{signed_of, values_of}
@@ -135,27 +135,27 @@ name_unknown = refl
 -- ---- answers
 
 -- 9001, 9002 and 9004
-pub message_texts : map answer_text (map Answer.Refused (Refusal.BadMessage ∷ Refusal.BadMac ∷ Refusal.NoService ∷ []))
+pub message_texts : map answer_text (map Err (Refusal.BadMessage ∷ Refusal.BadMac ∷ Refusal.NoService ∷ []))
     ≡ (0x39 ∷ 0x30 ∷ 0x30 ∷ 0x31 ∷ []) ∷ (0x39 ∷ 0x30 ∷ 0x30 ∷ 0x32 ∷ []) ∷ (0x39 ∷ 0x30 ∷ 0x30 ∷ 0x34 ∷ []) ∷ []
 unfolding answer_text code_text values_text
 message_texts = refl
 
 -- 9005
-pub bad_argument_text : answer_text (Answer.Refused Refusal.BadArgument) ≡ 0x39 ∷ 0x30 ∷ 0x30 ∷ 0x35 ∷ []
+pub bad_argument_text : answer_text (Err Refusal.BadArgument) ≡ 0x39 ∷ 0x30 ∷ 0x30 ∷ 0x35 ∷ []
 unfolding answer_text code_text values_text
 bad_argument_text = refl
 
 -- 010a
-pub void-text : answer_text (Answer.Success (line_of Request.Void).success Content.Plain) ≡ 0x30 ∷ 0x31 ∷ 0x30 ∷ 0x61 ∷ []
+pub void-text : answer_text (successful (line_of Request.Void).success Content.Plain) ≡ 0x30 ∷ 0x31 ∷ 0x30 ∷ 0x61 ∷ []
 unfolding answer_text code_text values_text values_of
 void-text = refl
 
 -- 0001,27,-1
-pub login-text : answer_text (Answer.Success (line_of (Request.Login (as_password []))).success (Content.Checked (record { 0 = 27 }) (record { 0 = 599 }))) ≡ 0x30 ∷ 0x30 ∷ 0x30 ∷ 0x31 ∷ 0x2c ∷ 0x32 ∷ 0x37 ∷ 0x2c ∷ 0x2d ∷ 0x31 ∷ []
+pub login-text : answer_text (successful (line_of (Request.Login (as_password []))).success (Content.Checked (record { 0 = 27 }) (record { 0 = 599 }))) ≡ 0x30 ∷ 0x30 ∷ 0x30 ∷ 0x31 ∷ 0x2c ∷ 0x32 ∷ 0x37 ∷ 0x2c ∷ 0x2d ∷ 0x31 ∷ []
 unfolding answer_text code_text values_text values_of signed_of decimal_digits
 login-text = refl
 
 -- 010b,2,0,1650
-pub query-text : answer_text (Answer.Success (line_of Request.Query).success (Content.Queried (record { state = 2; errors = 0; last_use = record { 0 = 1650 } }))) ≡ 0x30 ∷ 0x31 ∷ 0x30 ∷ 0x62 ∷ 0x2c ∷ 0x32 ∷ 0x2c ∷ 0x30 ∷ 0x2c ∷ 0x31 ∷ 0x36 ∷ 0x35 ∷ 0x30 ∷ []
+pub query-text : answer_text (successful (line_of Request.Query).success (Content.Queried (record { state = 2; errors = 0; last_use = record { 0 = 1650 } }))) ≡ 0x30 ∷ 0x31 ∷ 0x30 ∷ 0x62 ∷ 0x2c ∷ 0x32 ∷ 0x2c ∷ 0x30 ∷ 0x2c ∷ 0x31 ∷ 0x36 ∷ 0x35 ∷ 0x30 ∷ []
 unfolding answer_text code_text values_text values_of decimal_digits
 query-text = refl

@@ -1,4 +1,5 @@
 -- What each branch of a line's call returns.
+use Rattle.token.specs.Answers.{Answer}
 use Rattle.std.specs.Prelude.{ℕ, ◌+◌, ◌-◌, ◌^◌, ◌≤◌, ◌<◌, ◌≡◌, Bool, not, ◌&&◌, cond, List, [], ◌∷◌, eqb, leb, ltb, length, take, drop}
 use Rattle.std.proofs.Math.Path.{refl}
 use Rattle.std.proofs.Common.{sym, ◌∙◌, arith}
@@ -15,7 +16,6 @@ use Rattle.text.specs.Text.{decoded, decoded_of, decimal_of, bounded, number_in,
 use Rattle.text.specs.TextLaws.{number-value, hex_decoded, fields_positive}
 use Rattle.window.specs.PasswordAt.{PasswordRule}
 use Rattle.token.specs.declared.answers.Refusal.{Refusal}
-use Rattle.token.specs.declared.answers.Answer.{Answer}
 use Rattle.desk.specs.declared.Particulars.{Particulars}
 use Rattle.desk.specs.Requests.{DeskCall, challenge_call, sync_call, table_ok, challenge_given, request_ok}
 use Rattle.desk.specs.Desk.{Result, result_of, refused, desk_after}

@@ -1,6 +1,7 @@
 -- What the printing functions return.
+use Rattle.token.specs.Answers.{Answer, successful}
 use Prim.Native.Nat.{ℕ, zero, suc, ◌+◌, ◌-◌, ◌/◌, ◌%◌, ◌^◌, ◌≤◌, ◌<◌}
-use Rattle.std.specs.Prelude.{◌≡◌, refl, ltb, set, take, drop, replicate}
+use Rattle.std.specs.Prelude.{◌≡◌, refl, ltb, set, take, drop, replicate, Err}
 use Rattle.std.proofs.Common.{ap, ◌∙◌, div-lt_iff_lt-mul, lt_of_lt_of_le, zero-lt-suc, add-one, lit≤, length-append, length-take, length-drop, drop_of_length-le, drop-cons, drop-set-lt, get_or-set_same, drop-drop, take_all}
 use mathlib.Core.List.{List, [], ◌∷◌, ◌++◌, append-nil, append_assoc}
 use Rattle.std.proofs.Math.Nat.{pow-suc}
@@ -17,7 +18,6 @@ use Rattle.window.specs.Window.{farthest}
 use Rattle.token.specs.declared.answers.Status.{Status}
 use Rattle.token.specs.declared.answers.Content.{Content}
 use Rattle.token.specs.declared.answers.Refusal.{Refusal}
-use Rattle.token.specs.declared.answers.Answer.{Answer}
 use Rattle.token.specs.Codes.{signed_of, number_of, values_of}
 use Rattle.call_lines.specs.declared.Printed.{Printed}
 use Rattle.call_lines.specs.Line.{code_text, decimal_digits, decimal_text, signed_text, values_text, answer_text, printed_of}
@@ -145,10 +145,10 @@ module _ (answer : Answer) {number : ℕ} {code : Printed} (numbered : number �
   unfolding printed_of code_text
   code-length = rw printed
 
-  pub success-text : {n : ℕ} {content : Content} {r : Printed} → answer ≡ Answer.Success n content → Puts code (values_text (values_of content)) r → r ≡ printed_of (answer_text answer)
+  pub success-text : {n : ℕ} {content : Content} {r : Printed} → answer ≡ successful n content → Puts code (values_text (values_of content)) r → r ≡ printed_of (answer_text answer)
   unfolding answer_text
   success-text e p = p (code_text number) printed ∙ rw (numbered, e)
 
-  pub refusal-text : {refusal : Refusal} → answer ≡ Answer.Refused refusal → code ≡ printed_of (answer_text answer)
+  pub refusal-text : {refusal : Refusal} → answer ≡ Err refusal → code ≡ printed_of (answer_text answer)
   unfolding answer_text values_text
   refusal-text e = printed ∙ rw (numbered, e, append-nil)

@@ -1,8 +1,7 @@
 -- What the C functions that read and write messages give and leave (document 02, Ask 3).
-use Rattle.std.specs.Prelude.{ℕ, ◌-◌, cond, List, [], ◌∷◌, ◌++◌, eqb, leb, length, drop}
+use Rattle.std.specs.Prelude.{ℕ, ◌-◌, cond, List, [], ◌∷◌, ◌++◌, eqb, leb, length, drop, Err}
 use Rattle.words.specs.Codes.{done, bad_argument}
 use Rattle.words.specs.Output.{Left}
-use Rattle.token.specs.declared.answers.Answer.{Answer}
 use Rattle.token.specs.Codes.{number_of}
 use Rattle.message.specs.declared.reading.Heading.{Heading}
 use Rattle.message.specs.declared.reading.Reading.{Reading}
@@ -20,7 +19,7 @@ heading_fields h count = h.kind ∷ h.caller ∷ h.number ∷ h.service ∷ h.op
 
 abbrev pub fields_read : Reading → List ℕ → Left
 fields_read (Reading.Read heading count) fields = left done (heading_fields heading count ++ drop 6 fields)
-fields_read (Reading.Refused refusal) fields = left (number_of (Answer.Refused refusal)) fields
+fields_read (Reading.Refused refusal) fields = left (number_of (Err refusal)) fields
 
 -- fewer than six fields are a bad argument, whatever the message is
 unfoldable pub read_left : List ℕ → List ℕ → Left
@@ -36,7 +35,7 @@ place_fields p = p.identifier ∷ p.start ∷ (p.end - p.start) ∷ []
 abbrev pub fields_found : ItemRead → List ℕ → Left
 fields_found (ItemRead.Is place) fields = left done (place_fields place ++ drop 3 fields)
 fields_found ItemRead.Nothing fields = left bad_argument fields
-fields_found (ItemRead.Refused refusal) fields = left (number_of (Answer.Refused refusal)) fields
+fields_found (ItemRead.Refused refusal) fields = left (number_of (Err refusal)) fields
 
 unfoldable pub item_left : List ℕ → ℕ → List ℕ → Left
 item_left message index fields = cond (leb 3 (length fields)) (fields_found (item_of message index) fields) (left bad_argument fields)

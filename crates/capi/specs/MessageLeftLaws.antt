@@ -1,10 +1,9 @@
 -- What each branch of reading and writing a message through C returns.
-use Rattle.std.specs.Prelude.{ℕ, zero, suc, ◌≤◌, ◌<◌, ◌≡◌, refl, List, [], ◌∷◌, ◌++◌, length, set, drop}
+use Rattle.std.specs.Prelude.{ℕ, zero, suc, ◌≤◌, ◌<◌, ◌≡◌, refl, List, [], ◌∷◌, ◌++◌, length, set, drop, Err}
 use Rattle.std.proofs.Common.{arith}
 use borrow.Author.Tests.{le-leb, lt-leb, eq-eqb, ne_eqb}
 use Rattle.words.specs.Codes.{done, bad_argument}
 use Rattle.token.specs.declared.answers.Refusal.{Refusal}
-use Rattle.token.specs.declared.answers.Answer.{Answer}
 use Rattle.token.specs.Codes.{number_of}
 use Rattle.message.specs.declared.reading.Heading.{Heading}
 use Rattle.message.specs.declared.reading.Reading.{Reading}
@@ -45,7 +44,7 @@ module _ (message fields : List ℕ) where
   read_short l = rw (lt-leb 6 (length fields) l)
 
   module _ (room : 6 ≤ length fields) {r : Reading} (read : r ≡ reading_of (read_of message)) where
-    pub read-refused : {refusal : Refusal} → r ≡ Reading.Refused refusal → {code : ℕ} → code ≡ number_of (Answer.Refused refusal) → left code fields ≡ read_left message fields
+    pub read-refused : {refusal : Refusal} → r ≡ Reading.Refused refusal → {code : ℕ} → code ≡ number_of (Err refusal) → left code fields ≡ read_left message fields
     unfolding read_left
     read-refused e n = rw (le-leb 6 (length fields) room, ← read, e, n)
 
@@ -62,7 +61,7 @@ module _ (message : List ℕ) (index : ℕ) (fields : List ℕ) where
   item-short l = rw (lt-leb 3 (length fields) l)
 
   module _ (room : 3 ≤ length fields) {r : ItemRead} (found : r ≡ item_of message index) where
-    pub item_refused : {refusal : Refusal} → r ≡ ItemRead.Refused refusal → {code : ℕ} → code ≡ number_of (Answer.Refused refusal) → left code fields ≡ item_left message index fields
+    pub item_refused : {refusal : Refusal} → r ≡ ItemRead.Refused refusal → {code : ℕ} → code ≡ number_of (Err refusal) → left code fields ≡ item_left message index fields
     unfolding item_left
     item_refused e n = rw (le-leb 3 (length fields) room, ← found, e, n)
 

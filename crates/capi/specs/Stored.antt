@@ -1,9 +1,7 @@
 -- The C functions give a code and store their result in a lent output.
-use Rattle.std.specs.Prelude.{ℕ, List, cond, eqb}
+use Rattle.std.specs.Prelude.{ℕ, List, cond, eqb, Some, None}
 use Rattle.words.specs.Output.{Left, stored}
-use Rattle.otp.specs.Password.{password_answer}
-use Rattle.otp.specs.declared.Factor.{Factor}
-use Rattle.otp.specs.declared.Factor.TheVariants.{Absent, Present}
+use Rattle.otp.specs.Password.{password_answer, Factor}
 use Rattle.sm3.specs.Sm3.{sm3_answer}
 use Rattle.sm4.specs.Sm4.{keys_answer, encrypt_answer, sm4_answer}
 
@@ -25,7 +23,7 @@ encrypt_left keys block out = stored (encrypt_answer keys block).code (encrypt_a
 
 -- a factor with a flag beside its number: 0 says that it is absent
 unfoldable pub factor_of : ℕ → ℕ → Factor
-factor_of flag number = cond (eqb flag 0) Absent (Present number)
+factor_of flag number = cond (eqb flag 0) None (Some number)
 
 abbrev pub password_left : ℕ → List ℕ → ℕ → ℕ → ℕ → ℕ → List ℕ → ℕ → List ℕ → Left
 password_left algorithm key hasTime time hasCount count challenge digits out =

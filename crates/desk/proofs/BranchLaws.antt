@@ -1,5 +1,6 @@
 -- The branches of a call, walked once: what is shown of each answer that the call may come to, with what is known there, holds of the call's result.
-use Rattle.std.specs.Prelude.{ℕ, zero, suc, ◌+◌, ◌<◌, ◌≡◌, refl, true, false, ◌&&◌, List, eqb, leb, get_or}
+use Rattle.token.specs.Answers.{Answer, successful}
+use Rattle.std.specs.Prelude.{ℕ, zero, suc, ◌+◌, ◌<◌, ◌≡◌, refl, true, false, ◌&&◌, List, eqb, leb, get_or, Err}
 use Rattle.std.proofs.Common.{arith, leb-true}
 use Rattle.std.proofs.lemmas.Bool.{not-true}
 use Rattle.words.specs.BoolLaws.{and_left, and_right, either, either-by, clash}
@@ -19,7 +20,6 @@ use Rattle.row.specs.Table.{is_empty, has_serial, find_row, find_empty, located_
 use Rattle.row.specs.FoundLaws.{found-has}
 use Rattle.token.specs.declared.answers.Content.{Content}
 use Rattle.token.specs.declared.answers.Refusal.{Refusal}
-use Rattle.token.specs.declared.answers.Answer.{Answer}
 use Rattle.token.specs.declared.lines.Fails.{Fails}
 use Rattle.token.specs.declared.lines.Way.{Way}
 use Rattle.token.specs.declared.lines.Line.{Line}
@@ -135,7 +135,7 @@ module _ (passwords : PasswordRule) (s : List ℕ) (P : Result → Type 0) where
     pub full : LoadFit p key s → find_row row_bytes s p.serial ≡ Place.Nowhere → find_empty row_bytes s ≡ Place.Nowhere
         → P (refused Refusal.TableFull s)
     pub made : LoadFit p key s → find_row row_bytes s p.serial ≡ Place.Nowhere → (at : ℕ) → find_empty row_bytes s ≡ Place.At at
-        → P (result_of (Answer.Success 0x0140 Content.Plain) (write_row s at (loaded_row p key) key))
+        → P (result_of (successful 0x0140 Content.Plain) (write_row s at (loaded_row p key) key))
 
   module _ (p : Particulars) (key : List ℕ) (h : LoadHolds p key) where
     pub load-holds : P (desk_after passwords (DeskCall.load p key) s)
@@ -192,7 +192,7 @@ module _ (Q : Answer → Type 0) where
   Succeeds l w clock check Way.Tells = Q (telling l w).answer
   Succeeds l w clock check (Way.Checks asked f) = (a : Step) → check w.track asked ≡ Outcome.Accepted a → Q (judging l f w clock (Outcome.Accepted a)).answer
 
-  module _ (refusals : (f : Refusal) → Q (Answer.Refused f)) (passwords : PasswordRule) (s : List ℕ) where
+  module _ (refusals : (f : Refusal) → Q (Err f)) (passwords : PasswordRule) (s : List ℕ) where
     succeeds-done : (l : Line) (w : Row) (clock : ℕ) (check : Track → Asked → Outcome) (way : Way) → Succeeds l w clock check way
         → Done l w clock (λ d. Q d.answer) check way
     succeeds-done l w clock check Way.Changes q = q
@@ -207,7 +207,7 @@ module _ (Q : Answer → Type 0) where
           wrong = λ t e. refusals f.wrong;
         }
 
-    pub load-answer-holds : (p : Particulars) (key : List ℕ) → Q (Answer.Success 0x0140 Content.Plain) → Q (desk_after passwords (DeskCall.load p key) s).answer
+    pub load-answer-holds : (p : Particulars) (key : List ℕ) → Q (successful 0x0140 Content.Plain) → Q (desk_after passwords (DeskCall.load p key) s).answer
     load-answer-holds p key q =
         load-holds passwords s (λ x. Q x.answer) p key
         (record { bad = λ t. refusals _; taken = λ t other e. refusals _; full = λ t none e. refusals _; made = λ t none at e. q })

@@ -20,10 +20,9 @@ use Rattle.row.specs.Table.{find_row, find_empty, store_row, wipe_key}
 use Rattle.row.specs.RangeLaws.{unlocked_elsewhere}
 use Rattle.row.specs.FoundLaws.{found_within, empty-within}
 use Rattle.row.specs.StoreLaws.{store_same}
-use Rattle.token.specs.declared.lines.Needs.TheVariants.{From}
 use Rattle.token.specs.declared.lines.Way.TheVariants.{Checks}
 use Rattle.token.specs.declared.lines.After.TheVariants.{Kept}
-use Rattle.token.specs.Lines.{ready, at_login, listed, allowed, state_refusal}
+use Rattle.token.specs.Lines.{ready, at_login, listed, allowed, state_refusal, from_to}
 use Rattle.token.specs.Codes.{number_of}
 use Rattle.token.specs.States.{changed, wait_over, waited, with_state, accepted, errors_after, failed}
 use Rattle.token.specs.Deciding.{refusing}
@@ -129,7 +128,7 @@ module _ (s : List ℕ) (at clock : ℕ) (press : Bool) where
     login-leaves : (passwords : PasswordRule) (asked : Asked) (success : ℕ) (challenge p : List ℕ) → password_ok p ≡ true → press ≡ last_has passwords (row_at s at).track (secret_at s at) clock challenge p
         → (o : Outcome) → o ≡ one_asked passwords (row_at s at).track clock (secret_at s at) Small challenge (as_password p)
         → leaving success ≡ leaving 0x0001
-        → Judged (listed (From ready ready) (Checks asked at_login) success Kept) row clock (λ d. Leaves (stored s at d)) asked at_login o
+        → Judged (listed (from_to ready ready) (Checks asked at_login) success Kept) row clock (λ d. Leaves (stored s at d)) asked at_login o
     login-leaves passwords asked success challenge p ok same o eo es =
         record {
           expired = λ t. refl;

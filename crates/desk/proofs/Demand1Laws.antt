@@ -1,5 +1,5 @@
 -- Demand 1 (`Demand1`): every branch of a call gives a listed code and leaves the bytes named for it.
-use Rattle.std.specs.Prelude.{ℕ, ◌≡◌, refl, Bool, true, false, ◌&&◌, ◌||◌}
+use Rattle.std.specs.Prelude.{ℕ, ◌≡◌, refl, Bool, true, false, ◌&&◌, ◌||◌, Err}
 use mathlib.Core.List.{List, []}
 use Rattle.words.specs.Lists.{one_of}
 use Rattle.words.specs.BoolLaws.{and_left, and_right, clash}
@@ -8,7 +8,6 @@ use Rattle.row.specs.declared.reading.Place.{Place}
 use Rattle.row.specs.Row.{row_bytes}
 use Rattle.row.specs.Table.{find_row, store_row}
 use Rattle.token.specs.declared.answers.Refusal.{Refusal}
-use Rattle.token.specs.declared.answers.Answer.{Answer}
 use Rattle.token.specs.Lines.{allowed, state_refusal}
 use Rattle.token.specs.Codes.{refusal_number, number_of}
 use Rattle.token.specs.States.{failed}
@@ -49,11 +48,11 @@ module _ (passwords : PasswordRule) (s : List ℕ) (at clock : ℕ) where
       (search (and_left), rw w)
 
   -- what 8004 leaves of a login: nothing but a wait run out at a double press, else an error more
-  again-left : (press : Bool) → press ≡ true → store_row s at (row_now s at clock) ≡ request_bytes clock s at press (Answer.Refused Refusal.UsedAtLogin)
+  again-left : (press : Bool) → press ≡ true → store_row s at (row_now s at clock) ≡ request_bytes clock s at press (Err Refusal.UsedAtLogin)
   again-left true e = refl
   again-left false e = clash e refl
 
-  used-left : (press : Bool) → press ≡ false → store_row s at (failed (row_now s at clock) clock true) ≡ request_bytes clock s at press (Answer.Refused Refusal.UsedAtLogin)
+  used-left : (press : Bool) → press ≡ false → store_row s at (failed (row_now s at clock) clock true) ≡ request_bytes clock s at press (Err Refusal.UsedAtLogin)
   used-left true e = clash refl e
   used-left false e = refl
 

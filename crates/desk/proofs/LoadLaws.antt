@@ -1,4 +1,5 @@
 -- What each branch of a load returns.
+use Rattle.token.specs.Answers.{successful}
 use Rattle.std.specs.Prelude.{ℕ, ◌+◌, ◌^◌, ◌≤◌, ◌<◌, ◌≡◌, Bool, true, false, not, ◌&&◌, List, ltb, length}
 use Rattle.std.proofs.Common.{sym, ◌∙◌, arith}
 use borrow.Author.Tests.{lt-ltb, ltb-true, not-true, not-false}
@@ -12,7 +13,6 @@ use Rattle.row.specs.Table.{find_row, find_empty, write_row}
 use Rattle.row.specs.FoundLaws.{empty-within}
 use Rattle.token.specs.declared.answers.Content.{Content}
 use Rattle.token.specs.declared.answers.Refusal.{Refusal}
-use Rattle.token.specs.declared.answers.Answer.{Answer}
 use Rattle.desk.specs.declared.Particulars.{Particulars}
 use Rattle.desk.specs.Requests.{DeskCall, table_ok, loaded_row, load_ok}
 use Rattle.desk.specs.Desk.{result_of, refused, desk_after}
@@ -56,7 +56,7 @@ module _ (passwords : PasswordRule) (p : Particulars) (key s : List ℕ) {b c : 
       load_full m = rw (← lent, ← values, not-false (b && c) t, ← e, n, ← g, m)
 
       pub load-made : {at : ℕ} {r : Row} {after : List ℕ} → y ≡ Place.At at → r ≡ loaded_row p key → after ≡ write_row s at r key
-          → result_of (Answer.Success 0x0140 Content.Plain) after ≡ desk_after passwords (DeskCall.load p key) s
+          → result_of (successful 0x0140 Content.Plain) after ≡ desk_after passwords (DeskCall.load p key) s
       unfolding desk_after
       load-made m q w = rw (← lent, ← values, not-false (b && c) t, ← e, n, ← g, m, ← q, w)
 

@@ -1,4 +1,5 @@
 -- Besides the offsets listed for a code (`Demand1Bytes`), every byte of the table stays.
+use Rattle.token.specs.Answers.{Answer}
 use Rattle.std.specs.Prelude.{ℕ, ◌+◌, ◌≤◌, ◌<◌, ◌≡◌, Bool, true, false, ◌&&◌, ◌||◌, ◌⊎◌, eqb, leb, length, get_or}
 use Rattle.std.proofs.Math.Path.{refl}
 use Rattle.std.proofs.Common.{◌∙◌, inl, inr, arith, leb-true, leb-false}
@@ -16,7 +17,6 @@ use Rattle.row.specs.Row.{row_bytes}
 use Rattle.row.specs.FoundLaws.{found_within, empty-within}
 use Rattle.row.specs.WriteLaws.{length-zero_filled}
 use Rattle.token.specs.declared.answers.Refusal.{Refusal}
-use Rattle.token.specs.declared.answers.Answer.{Answer}
 use Rattle.token.specs.Codes.{refusal_number, number_of}
 use Rattle.desk.specs.declared.Particulars.{Particulars}
 use Rattle.desk.specs.Requests.{Request, DeskCall}

@@ -1,4 +1,5 @@
 -- What each branch of a request to the token of a serial returns.
+use Rattle.token.specs.Answers.{Answer}
 use Rattle.std.specs.Prelude.{ℕ, ◌+◌, ◌-◌, ◌^◌, ◌≤◌, ◌<◌, ◌≡◌, refl, Bool, not, ◌&&◌, ◌||◌, eqb, ltb, length, take, drop}
 use Rattle.std.proofs.Common.{sym, ap, ◌∙◌, ⊎_elim, arith, eq-eqb, le-leb, ltb-true, length-drop, length-take-le}
 use Rattle.std.proofs.Math.Bool.{true, false}
@@ -17,7 +18,6 @@ use Rattle.row.specs.FoundLaws.{found_within}
 use Rattle.row.specs.LocateLaws.{located-at}
 use Rattle.row.specs.Table.{located}
 use Rattle.token.specs.declared.answers.Refusal.{Refusal}
-use Rattle.token.specs.declared.answers.Answer.{Answer}
 use Rattle.token.specs.declared.lines.Request.{Request as Valued}
 use Rattle.token.specs.declared.deciding.Decision.{Decision}
 use Rattle.token.specs.Lines.{line_of}

@@ -1,6 +1,7 @@
 -- The first demand by bytes (docs/OFFER.md): for each code, which offsets of which row may differ from before, what each then holds, and that every other
 -- byte of the table is the same. Offsets and numbers are document 01's: "Accepted step" of Part 3, the row of Part 4, "Success, and what follows" and the
 -- wait of Part 5, and "Left in the table"; the double press is document 02's. `Demand1BytesLaws` and `OtherBytesLaws` have the proofs.
+use Rattle.token.specs.Answers.{Answer}
 use Rattle.std.specs.Prelude.{ℕ, ◌+◌, ◌-◌, ◌/◌, min, ◌≡◌, Bool, false, ◌&&◌, ◌||◌, cond, List, [], ◌∷◌, ◌++◌, eqb, leb, length, get_or, replicate, take, drop}
 use Rattle.std.proofs.Math.Option
 use Rattle.words.specs.Bytes.{AreBytes, be_at, be_bytes, put}
@@ -10,7 +11,6 @@ use Rattle.window.specs.PasswordAt.{PasswordRule}
 use Rattle.row.specs.declared.reading.Place.{Place}
 use Rattle.row.specs.Row.{row_bytes}
 use Rattle.row.specs.Table.{find_row, find_empty}
-use Rattle.token.specs.declared.answers.Answer.{Answer}
 use Rattle.token.specs.Codes.{number_of}
 use Rattle.desk.specs.declared.Particulars.{Particulars}
 use Rattle.desk.specs.Requests.{Request, DeskCall}

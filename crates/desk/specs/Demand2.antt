@@ -1,5 +1,6 @@
 -- The buyer's second demand (docs/OFFER.md): accepted exactly when a candidate at or after the first unused step has the presented password, which for one
 -- password means exactly one such candidate (document 02, Ask 5); else several, used or wrong exactly as the documents say. It holds for every password rule, both kinds and both ciphers at once; `Demand2Laws` has the proof.
+use Rattle.token.specs.Answers.{Answer}
 use Rattle.std.specs.Prelude.{ℕ, ◌+◌, ◌≤◌, ◌<◌, ◌≡◌, Bool, true, false, ◌&&◌, List, [], ◌∷◌}
 use Rattle.std.proofs.Math.Option.{Option, none, some}
 use Rattle.words.specs.Lists.{one_of}
@@ -12,7 +13,6 @@ use Rattle.window.specs.PasswordAt.{PasswordRule, has_by}
 use Rattle.row.specs.declared.reading.Place.{Place}
 use Rattle.row.specs.Row.{row_bytes, last_state, row_at, well_formed}
 use Rattle.row.specs.Table.{find_row}
-use Rattle.token.specs.declared.answers.Answer.{Answer}
 use Rattle.token.specs.Codes.{number_of}
 use Rattle.token.specs.States.{waited}
 use Rattle.desk.specs.Requests.{Request, DeskCall, table_ok, clock_ok, request_ok}

@@ -10,7 +10,7 @@ use row::{
     KEY_BYTES, LAST_STATE, NOT_ACTIVATED, Place, ROW_BYTES, Row, find_empty, find_row, numbers_ok,
     write_row,
 };
-use token::{Answer, Content, Refusal};
+use token::{Answer, Content, Refusal, Success};
 use window::{FARTHEST, Offset, Seconds, Step, Track};
 
 const LOADED: u16 = 0x0140;
@@ -57,14 +57,17 @@ pub fn load(table: &mut [u8], particulars: Particulars, key: &[u8]) -> Answer
     ensures { result_of result table.new ≡ desk_after password_at (DeskCall.load particulars key.now) table.old }
 {
     if !(table_ok(table) & load_ok(particulars, key)) {
-        return Answer::Refused(Refusal::BadArgument);
+        return Err(Refusal::BadArgument);
     }
     if let Place::At(_) = find_row(table, ROW_BYTES, particulars.serial) {
-        return Answer::Refused(Refusal::AlreadyLoaded);
+        return Err(Refusal::AlreadyLoaded);
     }
     let Place::At(at) = find_empty(table, ROW_BYTES) else {
-        return Answer::Refused(Refusal::TableFull);
+        return Err(Refusal::TableFull);
     };
     write_row(table, at, loaded_row(particulars, key), key);
-    Answer::Success(LOADED, Content::Plain)
+    Ok(Success {
+        number: LOADED,
+        content: Content::Plain,
+    })
 }

@@ -8,7 +8,7 @@ ghost use Rattle.desk.specs.Desk.{result_of, left_at, missing, served, desk_afte
 use crate::arguments::lent_ok;
 use otp::challenge_ok;
 use row::{KEY, LAST_STATE, Located, ROW_BYTES, locate, store_row, wipe_key};
-use token::{Answer, Key, Left, Refusal, Request, decide, report};
+use token::{Answer, Left, Refusal, Request, decide, report};
 use window::Seconds;
 
 // Leaves in the table what a decision leaves of the row at a place.
@@ -16,13 +16,13 @@ fn leave(table: &mut [u8], at: usize, left: Left)
     requires { at + row_bytes ≤ length table.old }
     ensures { table.new ≡ left_at table.old at left }
 {
-    let Left::Stored(row, key) = left else {
-        return;
-    };
-    store_row(table, at, row);
-    match key {
-        Key::Kept => {}
-        Key::Zeroed => wipe_key(table, at),
+    match left {
+        Left::Same => {}
+        Left::Stored(row) => store_row(table, at, row),
+        Left::Voided(row) => {
+            store_row(table, at, row);
+            wipe_key(table, at);
+        }
     }
 }
 
@@ -58,11 +58,11 @@ pub fn serve(
     ensures { result_of result table.new ≡ served password_at request challenge.now serial clock.0 table.old }
 {
     if !(lent_ok(table, clock) & challenge_fits(request, challenge)) {
-        return Answer::Refused(Refusal::BadArgument);
+        return Err(Refusal::BadArgument);
     }
     let located = locate(table, ROW_BYTES, LAST_STATE, serial);
     let Located::At(at, row) = located else {
-        return Answer::Refused(missing(located));
+        return Err(missing(located));
     };
     let start = at + KEY;
     let end = start + row.key_length as usize;
@@ -77,11 +77,11 @@ pub fn query(table: &[u8], serial: u64, clock: Seconds) -> Answer
     ensures { result_of result table.now ≡ desk_after password_at (query_call serial clock.0) table.now }
 {
     if !lent_ok(table, clock) {
-        return Answer::Refused(Refusal::BadArgument);
+        return Err(Refusal::BadArgument);
     }
     let located = locate(table, ROW_BYTES, LAST_STATE, serial);
     let Located::At(_, row) = located else {
-        return Answer::Refused(missing(located));
+        return Err(missing(located));
     };
     report(row, clock)
 }

@@ -17,7 +17,6 @@ use Rattle.row.specs.RangeLaws.{length_in_range}
 use Rattle.row.specs.StoreLaws.{SameParticulars, store_behind}
 use Rattle.row.specs.StoreLaws as stores
 use Rattle.row.specs.Table.{has_serial, is_empty, located_at, store_row, wipe_key}
-use Rattle.token.specs.declared.deciding.Key.{Key}
 use Rattle.token.specs.declared.deciding.Left.{Left}
 use Rattle.desk.specs.Requests.{Request, valued, challenge_of}
 use Rattle.desk.specs.Desk.{secret_at, left_at, served_at, served_from}
@@ -110,8 +109,8 @@ module _ (s : List ℕ) (at : ℕ) (t : Token) (before behind : List ℕ) (stand
 
   left-stands : (left : Left) → LeavesBy t.row left → left_at s at left ≡ between before (kept t left) behind
   left-stands Left.Same leaves = stands
-  left-stands (Left.Stored x Key.Kept) leaves = row-stored s at t.row t.key before behind stands place good.long x leaves.same
-  left-stands (Left.Stored x Key.Zeroed) leaves =
+  left-stands (Left.Stored x) leaves = row-stored s at t.row t.key before behind stands place good.long x leaves.same
+  left-stands (Left.Voided x) leaves =
       key_wiped (store_row s at x) at x t.key before behind
       (row-stored s at t.row t.key before behind stands place good.long x leaves.same) place good.long
 

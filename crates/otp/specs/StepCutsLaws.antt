@@ -1,5 +1,5 @@
 -- Lists of cuts, and SM4's: a step's cut under a key's round keys is the password's.
-use Rattle.std.specs.Prelude.{◌≡◌, ℕ, zero, suc, ◌+◌, ◌-◌, ◌*◌, ◌/◌, ◌%◌, ◌^◌, ◌<◌, ◌≤◌, Bool, true, false, List, [], ◌∷◌, ◌++◌, length, take, replicate, slice_index, refl}
+use Rattle.std.specs.Prelude.{◌≡◌, ℕ, zero, suc, ◌+◌, ◌-◌, ◌*◌, ◌/◌, ◌%◌, ◌^◌, ◌<◌, ◌≤◌, Bool, true, false, List, [], ◌∷◌, ◌++◌, length, take, replicate, slice_index, refl, Some, None}
 use Rattle.std.proofs.Common.{sym, ap, ap₂, ◌∙◌, append_assoc, append-nil, zero-add, add-zero, suc-add, not-suc-le-zero, le_of_suc-le-suc, arith, length-append, take_all}
 use Rattle.words.specs.Bytes.{be_bytes}
 use Rattle.words.specs.BytesLaws.{be_bytes-split, be_bytes-mod, length-be_bytes}
@@ -8,7 +8,6 @@ use Rattle.sm4.specs.Sm4Laws.{QuadBelow, steps-below, linear-lt}
 use Rattle.sm4.specs.EncryptLaws.{output_words}
 use Rattle.sm4.specs.declared.chaining.CipherWords.{CipherWords}
 use Rattle.sm4.specs.declared.round.Quad.{Quad}
-use Rattle.otp.specs.declared.Factor.TheVariants.{Absent, Present}
 use Rattle.otp.specs.Password.{factor_bytes, id_of, filled, to_blocks, block_at, output_of, chained, word_sum, cut}
 use Rattle.otp.specs.Chain.{prepared}
 use Rattle.otp.specs.ChainLaws.{bytes-words}
@@ -84,12 +83,12 @@ module _ (keys : List ℕ) (timed : Bool) (s : ℕ) {x y z a b c : Quad} where
 -- ---- the block
 
 -- eight bytes, then eight zeros
-timed-bytes : (s : ℕ) → filled (id_of (Present s) Absent []) ≡ be_bytes 8 s ++ be_bytes 8 0
+timed-bytes : (s : ℕ) → filled (id_of (Some s) None []) ≡ be_bytes 8 s ++ be_bytes 8 0
 unfolding filled id_of factor_bytes be_bytes
 timed-bytes s = refl
 
 -- four bytes, then twelve zeros
-counted-bytes : (s : ℕ) → filled (id_of Absent (Present s) []) ≡ be_bytes 4 s ++ (be_bytes 4 0 ++ be_bytes 8 0)
+counted-bytes : (s : ℕ) → filled (id_of None (Some s) []) ≡ be_bytes 4 s ++ (be_bytes 4 0 ++ be_bytes 8 0)
 unfolding filled id_of factor_bytes be_bytes
 counted-bytes s = refl
 

@@ -26,12 +26,8 @@ pub const SM3: u8 = 3;
 
 pub const SM4: u8 = 4;
 
-// A factor of the password, the time T or the event count C (GM/T 0021, 6.1): present with its number, or absent.
-#[derive(Clone, Copy)]
-pub enum Factor {
-    Absent,
-    Present(u64),
-}
+// A factor of the password, the time T or the event count C (GM/T 0021, 6.1), which may be absent.
+pub type Factor = Option<u64>;
 
 // The password of the given factors, at the front of out, or the code of a bad argument.
 pub fn password(

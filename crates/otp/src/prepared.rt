@@ -17,21 +17,13 @@ use sm4::round::words_of;
 pub(crate) fn time_at(timed: bool, s: u64) -> Factor
     ensures { result ≡ time_at timed s }
 {
-    if timed {
-        Factor::Present(s)
-    } else {
-        Factor::Absent
-    }
+    timed.then_some(s)
 }
 
 pub(crate) fn count_at(timed: bool, s: u64) -> Factor
     ensures { result ≡ count_at timed s }
 {
-    if timed {
-        Factor::Absent
-    } else {
-        Factor::Present(s)
-    }
+    (!timed).then_some(s)
 }
 
 // The SM3 way (6.2.2), cut.

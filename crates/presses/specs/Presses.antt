@@ -1,12 +1,12 @@
 -- A double press on the tablet (document 02, Ask 4): what one does, and what lists of calls come to without them. Everything is said of any table, damaged ones
 -- included, and of every password rule; `PressesLaws` has the proofs.
+use Rattle.token.specs.Answers.{Answer}
 use Rattle.std.specs.Prelude.{ℕ, ◌≡◌, Bool, true, false, ◌&&◌, cond, List, [], ◌∷◌, eqb, replicate}
 use Rattle.words.specs.Bytes.{AreBytes}
 use Rattle.window.specs.PasswordAt.{PasswordRule}
 use Rattle.row.specs.declared.reading.Place.{Place}
 use Rattle.row.specs.Row.{row_bytes, row_at}
 use Rattle.row.specs.Table.{find_row, store_row}
-use Rattle.token.specs.declared.answers.Answer.{Answer}
 use Rattle.token.specs.Codes.{number_of}
 use Rattle.token.specs.States.{waited}
 use Rattle.desk.specs.Requests.{Request, DeskCall}

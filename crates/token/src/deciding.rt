@@ -6,24 +6,18 @@ ghost use Rattle.token.specs.Lines.{line_of};
 ghost use Rattle.token.specs.States.{waited, Near, IfAccepted};
 ghost use Rattle.token.specs.Deciding.{refusing, left_by, changing, telling, judging, decided};
 
-use crate::answers::{Answer, Content, Refusal, Status};
+use crate::answers::{Answer, Content, Refusal, Status, Success};
 use crate::lines::{After, Fails, Line, Request, Way, allowed, line_of, state_refusal};
 use crate::states::{accepted, failed, offset_after, repeated, waited, with_state};
 use row::{Row, VOID};
 use window::{Outcome, Seconds, check};
 
-// What becomes of a row's key.
-#[derive(Clone, Copy)]
-pub enum Key {
-    Kept,
-    Zeroed,
-}
-
-// What is left of a row: every byte the same, or the row stored.
+// What is left of a row: every byte the same; the row stored; or that and its key zeroed.
 #[derive(Clone, Copy)]
 pub enum Left {
     Same,
-    Stored(Row, Key),
+    Stored(Row),
+    Voided(Row),
 }
 
 #[derive(Clone, Copy)]
@@ -36,8 +30,8 @@ fn refusing(refusal: Refusal, row: Row) -> Decision
     ensures { result ≡ refusing refusal row }
 {
     Decision {
-        answer: Answer::Refused(refusal),
-        left: Left::Stored(row, Key::Kept),
+        answer: Err(refusal),
+        left: Left::Stored(row),
     }
 }
 
@@ -46,9 +40,9 @@ fn left_by(after: After, row: Row) -> Left
     ensures { result ≡ left_by after row }
 {
     match after {
-        After::Kept => Left::Stored(row, Key::Kept),
-        After::Becomes(state) => Left::Stored(with_state(row, state), Key::Kept),
-        After::Voided => Left::Stored(with_state(row, VOID), Key::Zeroed),
+        After::Kept => Left::Stored(row),
+        After::Becomes(state) => Left::Stored(with_state(row, state)),
+        After::Voided => Left::Voided(with_state(row, VOID)),
     }
 }
 
@@ -58,7 +52,10 @@ fn changing(line: Line, row: Row) -> Decision
     let after = line.after;
     let left = left_by(after, row);
     Decision {
-        answer: Answer::Success(line.success, Content::Plain),
+        answer: Ok(Success {
+            number: line.success,
+            content: Content::Plain,
+        }),
         left,
     }
 }
@@ -73,7 +70,10 @@ fn telling(line: Line, row: Row) -> Decision
         last_use,
     };
     Decision {
-        answer: Answer::Success(line.success, Content::Queried(status)),
+        answer: Ok(Success {
+            number: line.success,
+            content: Content::Queried(status),
+        }),
         left: Left::Same,
     }
 }
@@ -90,7 +90,10 @@ fn judging(line: Line, fails: Fails, row: Row, clock: Seconds, outcome: Outcome)
             let after = line.after;
             let left = left_by(after, accepted(row, clock, a));
             Decision {
-                answer: Answer::Success(line.success, Content::Checked(a, offset)),
+                answer: Ok(Success {
+                    number: line.success,
+                    content: Content::Checked(a, offset),
+                }),
                 left,
             }
         }
