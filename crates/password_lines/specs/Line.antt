@@ -1,8 +1,6 @@
 -- What is printed for a line `key,T,C,Q,algorithm,digits` (document 01, "Line program").
 use Rattle.std.specs.Prelude.{ℕ, ◌^◌, cond, Option, Some, None, List, [], ◌∷◌, eqb, ltb, length, get_or}
-use Rattle.otp.specs.declared.Factor.{Factor}
-use Rattle.otp.specs.declared.Factor.TheVariants.{Absent, Present}
-use Rattle.otp.specs.Password.{arguments_ok, password_of}
+use Rattle.otp.specs.Password.{Factor, arguments_ok, password_of}
 use Rattle.text.specs.Text.{decimal_of, hex_of, fields_of}
 
 -- the text 9005
@@ -17,11 +15,11 @@ given (Some x) f = f x
 -- a number below the limit
 abbrev pub below : ℕ → Option ℕ → Option Factor
 below limit None = None
-below limit (Some x) = cond (ltb x limit) (Some (Present x)) None
+below limit (Some x) = cond (ltb x limit) (Some (Some x)) None
 
 -- T and C: an empty field is absent
 unfoldable pub factor_field : ℕ → List ℕ → Option Factor
-factor_field limit [] = Some Absent
+factor_field limit [] = Some None
 factor_field limit (b ∷ s) = below limit (decimal_of (b ∷ s))
 
 -- the password, or the refusal where Part 2's arguments are bad

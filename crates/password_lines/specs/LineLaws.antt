@@ -8,9 +8,7 @@ use Rattle.std.proofs.Math.ListN.{length, replicate}
 use Rattle.std.proofs.Math.Seq.{take-append_seam, drop-append_seam}
 use Rattle.words.specs.ListsLaws.{drop_zeros}
 use Rattle.words.specs.BoolLaws.{by-test, and_false, impossible}
-use Rattle.otp.specs.declared.Factor.{Factor}
-use Rattle.otp.specs.declared.Factor.TheVariants.{Absent, Present}
-use Rattle.otp.specs.Password.{arguments_ok, password_of, password_answer}
+use Rattle.otp.specs.Password.{Factor, arguments_ok, password_of, password_answer}
 use Rattle.otp.specs.PasswordLaws.{key-short, challenge-short, known_algorithm, digits_low, digits_high, length-password, answer-refused, answer-stored}
 use Rattle.words.specs.Codes.{done, bad_argument}
 use Rattle.text.specs.Text.{digit_value, digits_from, decoded, decoded_of, decimal_of, bounded, number_in, hex_of, fields_of, sum_lengths}
@@ -40,7 +38,7 @@ unfolding factor_field
 factor_given limit [] h = absurd (h refl)
 factor_given limit (b ∷ s) h = refl
 
-pub factor_absent : (limit : ℕ) (s : List ℕ) → length s ≡ 0 → Some Absent ≡ factor_field limit s
+pub factor_absent : (limit : ℕ) (s : List ℕ) → length s ≡ 0 → Some None ≡ factor_field limit s
 unfolding factor_field
 factor_absent limit [] e = refl
 factor_absent limit (b ∷ s) e = absurd (omega arith)
@@ -52,7 +50,7 @@ module _ (most : ℕ) (fits : most < 2 ^ 64) (s : List ℕ) (given-field : lengt
   pub factor_bad : number_in s ≡ None → None ≡ factor_field (most + 1) s
   factor_bad e = rw (factor_given (most + 1) s given-field) (no_number (decimal_of s) e)
 
-  pub factor_within : {x : ℕ} → number_in s ≡ Some x → x ≤ most → Some (Present x) ≡ factor_field (most + 1) s
+  pub factor_within : {x : ℕ} → number_in s ≡ Some x → x ≤ most → Some (Some x) ≡ factor_field (most + 1) s
   factor_within {x} e l = rw (factor_given (most + 1) s given-field, (number-value s e).0, lt-ltb x (most + 1) (omega arith))
 
   pub factor_above : {x : ℕ} → number_in s ≡ Some x → most < x → None ≡ factor_field (most + 1) s

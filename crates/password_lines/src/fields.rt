@@ -14,14 +14,10 @@ fn factor_field(field: &[u8], most: u64) -> Option<Factor>
     ensures { result ≡ factor_field (most + 1) field.now }
 {
     if field.len() == 0 {
-        return Some(Factor::Absent);
+        return Some(None);
     }
     let x = decimal(field)?;
-    if x <= most {
-        Some(Factor::Present(x))
-    } else {
-        None
-    }
+    if x <= most { Some(Some(x)) } else { None }
 }
 
 // A small number. Most have one digit.
