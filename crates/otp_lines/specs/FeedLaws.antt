@@ -7,8 +7,7 @@ use Rattle.std.proofs.Math.ListN.{take}
 use Rattle.std.proofs.lemmas.List.{length-replicate}
 use Rattle.std.proofs.Math.Seq.{take-append-add, take-append_seam, take-length}
 use Rattle.words.specs.Search.{index_of, slice}
-use Rattle.password_lines.specs.Line.{line_answer, refusal, printed_of}
-use Rattle.password_lines.specs.declared.Printed.{Printed}
+use Rattle.password_lines.specs.Line.{line_answer, refusal}
 use Rattle.password_lines.specs.LineLaws.{long-line, answer-length}
 use Rattle.lines.specs.Lines.{line_feed, behind, cut, last, Held, Put}
 use Rattle.lines.specs.LinesLaws.{pieces_do_not_matter, cut_line, cut-rest}
@@ -19,32 +18,33 @@ use Rattle.otp_lines.specs.StreamLaws.{answered_join}
 
 -- ---- the output
 
--- the answer's text in what `answer` gives
-printed-text : (line : List ℕ) {r : Printed} → r ≡ printed_of (line_answer line) → (r.len ≡ length (line_answer line)) × (take r.len r.bytes ≡ line_answer line)
-unfolding printed_of
-printed-text line e = rw e (refl, take-append_seam (line_answer line) (replicate (10 - length (line_answer line)) 0))
+-- an answer has room in ten bytes
+pub padded-length : (line : List ℕ) {text padded : List ℕ} → text ≡ line_answer line → padded ≡ text ++ replicate (10 - length text) 0
+    → (length padded ≡ 10) × (length text ≤ 10)
+padded-length line answer zeros =
+    let l : length (line_answer line) ≤ 10 = (answer-length line).1 in
+    rw (zeros, answer, length-append, length-replicate) (omega arith)
 
-pub printed-length : (line : List ℕ) {r : Printed} → r ≡ printed_of (line_answer line) → (r.len ≤ 10) × (length r.bytes ≡ 10)
-unfolding printed_of
-printed-length line e = let l = answer-length line in rw (e, length-append, length-replicate) (omega arith)
-
--- the bytes were put with what stands behind the answer, and the line feed upon that
-module _ (s : List ℕ) (at : ℕ) (line : List ℕ) {r : Printed} {after : List ℕ} {end : ℕ} (answer : r ≡ printed_of (line_answer line))
-    (room : at ≤ length s) (bytes : Put s at r.bytes after end) where
-  text-put-front : take (at + r.len) after ≡ take at s ++ line_answer line
+-- the bytes were put with the zeros behind the answer, and the line feed upon the first of those
+module _ (s : List ℕ) (at : ℕ) (line : List ℕ) {text padded after : List ℕ} {end : ℕ} (answer : text ≡ line_answer line)
+    (zeros : padded ≡ text ++ replicate (10 - length text) 0) (room : at ≤ length s) (bytes : Put s at padded after end) where
+  text-put-front : take (at + length text) after ≡ take at s ++ line_answer line
   text-put-front =
-      let n = printed-length line answer in
       let p = bytes.place in
-      let l : at + r.len ≤ end = omega arith in
+      let n : length padded ≡ length text + (10 - length text) = rw (zeros, length-append, length-replicate) refl in
+      let l : at + length text ≤ end = omega arith in
       let e = length-take-le at s room in
-      sym (take-take (at + r.len) end after l) ∙ rw (bytes.front, ← (printed-text line answer).1) (rw e at (take-append-add (take at s) r.bytes r.len))
+      let front : take (length text) padded ≡ text = rw zeros (take-append_seam text (replicate (10 - length text) 0)) in
+      sym (take-take (at + length text) end after l)
+      ∙ rw (bytes.front, ← answer) (rw e at (take-append-add (take at s) padded (length text)) ∙ ap (λ (t : List ℕ). take at s ++ t) front)
 
-  pub answer-put : at + r.len < length after → Put s at (answered line) (set after (at + r.len) line_feed) (at + r.len + 1)
-  answer-put l =
-      let n = (printed-text line answer).0 in
+  pub answer-put : {n : ℕ} → n ≡ length text → at + n < length after → Put s at (answered line) (set after (at + n) line_feed) (at + n + 1)
+  answer-put {n} e l =
+      let same = ap length answer in
+      let front : take (at + n) after ≡ take at s ++ line_answer line = rw e text-put-front in
       record {
         place = rw length-append (omega arith);
-        front = rw (add-one, take-suc-set, text-put-front) (append_assoc (take at s) (line_answer line) (line_feed ∷ []));
+        front = rw (add-one, take-suc-set, front) (append_assoc (take at s) (line_answer line) (line_feed ∷ []));
       }
 
 -- ---- the pending line
