@@ -21,6 +21,7 @@ fn factor_field(field: &[u8], most: u64) -> Option<Factor>
 }
 
 // A small number. Most have one digit.
+#[inline(always)]
 fn small_field(field: &[u8]) -> Option<u8>
     ensures { result ≡ byte_of (decimal_of field.now) }
 {
