@@ -34,17 +34,16 @@ fn find_each(s: &[u8], from: usize, to: usize, b: u8) -> usize
     ensures value { result ≡ from + index_of b (slice from to s.now) }
     ensures upper_bound { result ≤ to }
 {
-    let mut at = from;
-    while at < to {
+    for at in from..to {
         if s[at] == b {
             return at;
         }
-        at += 1;
     }
     to
 }
 
 // The place of the first b from `from` up to, not including, `to`; `to` where there is none.
+#[inline(always)]
 pub fn find(s: &[u8], from: usize, to: usize, b: u8) -> usize
     requires from_le_to { from ≤ to }
     requires to_in_bounds { to ≤ length s.now }
@@ -52,6 +51,7 @@ pub fn find(s: &[u8], from: usize, to: usize, b: u8) -> usize
     ensures upper_bound { result ≤ to }
 {
     let mut at = from;
+    // Eight bytes a step; a range by `step_by` would want the last start, and that may lie below 0.
     while at + 8 <= to {
         let found = marks(s, at, b);
         if found != 0 {
