@@ -15,15 +15,17 @@ use otp::{Factor, password};
 use sm3::sm3;
 use sm4::{encrypt, round_keys, sm4};
 use store::{store, store_words};
+use words::codes::{BAD_ARGUMENT, DONE};
 
 // SM3 of the message, into the first 32 bytes of out.
 #[unsafe(no_mangle)]
 pub extern "C" fn dl_sm3(message: &[u8], out: &mut [u8]) -> u16
     ensures { left result out.new ≡ sm3_left message.now out.old }
 {
-    let hash = sm3(message);
-    let digest = hash.digest;
-    store(hash.code, &digest, out)
+    match sm3(message) {
+        Ok(digest) => store(DONE, &digest, out),
+        Err(_) => BAD_ARGUMENT,
+    }
 }
 
 // SM4 of the block under the key, into the first 16 bytes of out.

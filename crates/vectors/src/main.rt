@@ -15,8 +15,10 @@ fn show(rt: &impl Print, name: &str, bytes: &[u8]) -> io::Result<()> {
 }
 
 fn show_digest(rt: &impl Print, name: &str, message: &[u8]) -> io::Result<()> {
-    let digest = sm3(message).digest;
-    show(rt, name, &digest)
+    match sm3(message) {
+        Ok(digest) => show(rt, name, &digest),
+        Err(_) => println!(rt; "{name}refused"),
+    }
 }
 
 // The 64 bytes "abcd" sixteen times.

@@ -1,4 +1,3 @@
-use Rattle.std.proofs.Math.Seq.{take-length}
 use Rattle.words.specs.OutputLaws.{stored-refusal, stored_short, stored-whole}
 use Rattle.capi.specs.StoredLaws.{left_both}
 use Rattle.capi.proofs.store.store.Goals as goal
@@ -11,4 +10,4 @@ returns-then-out-res c = left_both (stored_short _ _ _ c.if-code-ne-DONE.false c
 
 pub returns : goal.returns
 returns c =
-    left_both (stored-whole c.args.code c.args.res.now c.args.out.now c.if-code-ne-DONE.false c.if-out-res.false (rw (take-length c.args.res.now) at c.copy.ensures))
+    left_both (stored-whole c.args.code c.args.res.now c.args.out.now c.if-code-ne-DONE.false c.if-out-res.false c.copy.ensures)

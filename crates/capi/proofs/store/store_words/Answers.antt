@@ -10,4 +10,4 @@ returns-then-out-res c = left_both (stored_short _ _ _ c.if-code-ne-DONE.false c
 
 pub returns : goal.returns
 returns c =
-    left_both (stored-whole c.args.code c.args.res.now c.args.out.now c.if-code-ne-DONE.false c.if-out-res.false c.copy_words.ensures)
+    left_both (stored-whole c.args.code c.args.res.now c.args.out.now c.if-code-ne-DONE.false c.if-out-res.false c.copy.ensures)
