@@ -80,7 +80,7 @@ module _ (s : List ℕ) (at : ℕ) (room : at + row_bytes ≤ length s) where
       rw add-zero at (number_behind s (sets_from 0 s at (first_bytes r)) (at + 0) (at + 8) (first_bytes r) 8 (sets_put 0 s at (first_bytes r) (omega arith)) refl (omega arith) 8 r.serial e (omega arith))
 
   pub key-written : (key : List ℕ) {t part rest : List ℕ} → length key ≤ key_bytes
-      → part ≡ take (length key) key ++ drop (length key) (take (at + 16 + length key - (at + 16)) (drop (at + 16) s))
+      → part ≡ key ++ drop (length key) (take (at + 16 + length key - (at + 16)) (drop (at + 16) s))
       → t ≡ take (at + 16) s ++ (part ++ drop (at + 16 + length key - (at + 16)) (drop (at + 16) s))
       → rest ≡ replicate (length (take (at + 48 - (at + 16 + length key)) (drop (at + 16 + length key) t))) 0
       → take (at + 16 + length key) t ++ (rest ++ drop (at + 48 - (at + 16 + length key)) (drop (at + 16 + length key) t)) ≡ put s (at + 16) (zero_filled key)
