@@ -1,13 +1,12 @@
 -- What each function of the code returns, over what the functions that it calls ensure.
-use Rattle.std.specs.Prelude.{ℕ, suc, Bool, true, false, not, cond, ◌&&◌, ◌||◌, ◌+◌, ◌*◌, ◌-◌, ◌/◌, ◌%◌, ◌^◌, ◌≤◌, ◌<◌, ◌≡◌, refl, List, ◌++◌, length, get_or, set, take, drop, replicate}
-use Rattle.std.proofs.Common.{◌∙◌, append-nil, add-zero, add-one, arith, get_or-drop, take-suc-set, take_all}
-use Rattle.std.proofs.Math.Seq.{append_snoc}
+use Rattle.std.specs.Prelude.{ℕ, Bool, true, false, not, cond, ◌&&◌, ◌||◌, ◌+◌, ◌*◌, ◌/◌, ◌%◌, ◌^◌, ◌<◌, ◌≡◌, refl, List, ◌++◌, get_or, drop, replicate}
+use Rattle.std.proofs.Common.{◌∙◌, add-zero, arith, get_or-drop}
 use Rattle.std.specs.Int.{to_be_bytes, w32}
 use Rattle.words.specs.Bytes.{be_at, be_bytes, put_be}
 use Rattle.words.specs.BytesLaws.{word_back}
 use Rattle.sm4.specs.Sbox.{substitute}
-use Rattle.sm4.specs.Sm4.{word, tau, linear, linear_key, step, steps, words_of, masked, reversed, ck, cks, keys_from, round_keys}
-use Rattle.sm4.specs.Sm4Laws.{steps-add, cks-at, round-key-is}
+use Rattle.sm4.specs.Sm4.{word, tau, linear, step, steps, words_of, reversed}
+use Rattle.sm4.specs.Sm4Laws.{steps-add}
 use Rattle.sm4.specs.declared.round.Quad.{Quad}
 
 -- ---- two lengths, tested at once
@@ -46,37 +45,6 @@ four-steps lin ks i q er es et eu = simp (get_or-drop, add-zero) (rw (← er, �
 -- four rounds more
 pub rounds_more : (ks : List ℕ) (i : ℕ) (q : Quad) {s t : Quad} → s ≡ steps linear ks i q → t ≡ steps linear (drop i ks) 4 s → t ≡ steps linear ks (i + 4) q
 rounds_more ks i q es et = rw (steps-add linear ks i 4 q, ← es) et
-
--- ---- the key schedule
-
--- one more round key is stored
-pub keys_more : (ws : List ℕ) (i : ℕ) (q : Quad) {next : Quad} → length ws ≡ 32 → i < 32 → next ≡ step linear_key (ck i) q
-    → take (i + 1) (set ws i next.d) ++ keys_from (32 - (i + 1)) (i + 1) next ≡ take i ws ++ keys_from (32 - i) i q
-unfolding keys_from
-keys_more ws i q {next} el h e =
-    let f : 32 - i ≡ suc (32 - suc i) = omega arith in
-    let l : i < length ws = omega arith in
-    rw (add-one, take-suc-set, f, ← e) (append_snoc (take i ws) next.d (keys_from (32 - suc i) (suc i) next))
-
-pub keys_end : (ws : List ℕ) (i : ℕ) (q : Quad) → length ws ≡ 32 → i ≡ 32 → take i ws ++ keys_from (32 - i) i q ≡ ws
-unfolding keys_from
-keys_end ws i q el e =
-    let l : length ws ≤ 32 = omega arith in
-    rw (e, take_all 32 ws l) (append-nil ws)
-
--- one step more, whose last word is the round key (7.3)
-module _ (key : List ℕ) (i : ℕ) {k next : Quad} (h : i < 32) (ek : k ≡ steps linear_key cks i (masked (words_of key))) (e : next ≡ step linear_key (ck i) k) where
-  pub schedule_more : next ≡ steps linear_key cks (i + 1) (masked (words_of key))
-  unfolding steps
-  schedule_more = rw (add-one, cks-at i h, ← ek) e
-
-  pub key_made : get_or (round_keys key) i 0 ≡ next.d
-  key_made = round-key-is key i h ∙ rw (← add-one i, ← schedule_more)
-
-  -- the round with it
-  pub round_more : (x : Quad) {q r : Quad} → q ≡ steps linear (round_keys key) i x → r ≡ step linear next.d q → r ≡ steps linear (round_keys key) (i + 1) x
-  unfolding steps
-  round_more x eq er = rw (add-one, key_made, ← eq) er
 
 -- ---- encryption
 

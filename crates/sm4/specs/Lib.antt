@@ -3,5 +3,8 @@ pub mod Sbox
 pub mod SboxLaws
 pub mod Sm4
 pub mod Sm4Laws
+pub mod Schedule
+pub mod ScheduleLaws
 pub mod EncryptLaws
+pub mod SidesLaws
 pub mod Sm4Examples

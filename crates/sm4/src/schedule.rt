@@ -1,6 +1,6 @@
 // The key schedule (GB/T 32907, 7.3).
 ghost use Rattle.std.specs.Prelude.{◌≡◌, ◌<◌, length, slice_set};
-ghost use Rattle.sm4.specs.Sm4.{linear_key, step, ck, masked, keys_from, keys_answer};
+ghost use Rattle.sm4.specs.Sm4.{linear_key, step, ck, masked, keys_answer};
 
 use crate::parameters::CK;
 use crate::round::{Expansion, Quad, words_of};
@@ -30,18 +30,6 @@ pub fn next_key(q: Quad, i: usize, keys: &mut [u32]) -> Quad
     next
 }
 
-// The 32 round keys.
-fn keys_from(start: Quad) -> [u32; 32]
-    ensures { result ≡ keys_from 32 0 start }
-{
-    let mut words = [0u32; 32];
-    let mut q = start;
-    for i in 0..32 {
-        q = next_key(q, i, &mut words);
-    }
-    words
-}
-
 // The round keys of a key of 16 bytes.
 pub fn round_keys(key: &[u8]) -> Result<[u32; 32], BadArgument>
     ensures { result ≡ keys_answer key.now }
@@ -49,5 +37,10 @@ pub fn round_keys(key: &[u8]) -> Result<[u32; 32], BadArgument>
     if key.len() != 16 {
         return Err(BadArgument);
     }
-    Ok(keys_from(masked(words_of(key))))
+    let mut keys = [0u32; 32];
+    let mut k = masked(words_of(key));
+    for i in 0..32 {
+        k = next_key(k, i, &mut keys);
+    }
+    Ok(keys)
 }

@@ -1,14 +1,14 @@
 -- Laws of several blocks: a step of each is a step more for each.
-use Rattle.std.specs.Prelude.{ℕ, ◌≡◌, refl, ◌+◌, ◌<◌, List, ◌++◌, length, get_or, set, take, drop, map}
-use Rattle.std.proofs.Common.{sym, ◌∙◌, add-one, arith, length-append, length-drop, length-set}
+use Rattle.std.specs.Prelude.{ℕ, ◌≡◌, ◌+◌, ◌<◌, List, ◌++◌, length, get_or, set, take, drop, map}
+use Rattle.std.proofs.Common.{sym, add-one, arith, length-append, length-drop}
 use Rattle.std.proofs.Math.Seq.{length-take-le}
 use Rattle.std.proofs.lemmas.List.{map-id, length-map, get_or_default}
 use Rattle.std.proofs.lemmas.List.Edits.{map_over_more}
 use Rattle.std.proofs.lemmas.Simd.{map-map}
-use Rattle.sm4.specs.Sm4.{linear, linear_key, step, steps, masked, words_of, ck, round_keys}
-use Rattle.sm4.specs.EncryptLaws.{keys_more, keys_end, schedule_more, key_made}
+use Rattle.sm4.specs.Sm4.{linear, linear_key, step, steps, ck, round_keys}
+use Rattle.sm4.specs.Schedule.{Expanded}
+use Rattle.sm4.specs.ScheduleLaws.{round_key_made, expanded_more}
 use Rattle.sm4.specs.declared.round.Quad.{Quad}
-use Rattle.sm4_lanes.specs.Lanes.{Reached}
 
 -- ---- a loop that takes each block through a step
 
@@ -32,22 +32,9 @@ module _ (ks : List ℕ) (blocks : List Quad) where
 
 -- ---- under a fresh key
 
-module _ (key : List ℕ) (blocks : List Quad) where
-  pub reached_none : {w k : Quad} {keys : List ℕ} → length keys ≡ 32 → w ≡ words_of key → k ≡ masked w → Reached key blocks 0 k blocks keys
-  unfolding steps round_keys
-  reached_none l ew ek = record { expanded = rw (ek, ew); encrypted = each_none (round_keys key) blocks; room = l; stored = rw (ek, ew) }
-
-  pub reached_more : (n : ℕ) {k next : Quad} {s t : List Quad} {keys after : List ℕ} {m : ℕ} → Reached key blocks n k s keys → n < 32
-      → next ≡ step linear_key (ck n) k → t ≡ map (step linear next.d) s → after ≡ set keys n next.d → n + 1 ≡ m → Reached key blocks m next t after
-  reached_more n {k} {next} {s} {t} {keys} r h ek et ea em =
-      let made = key_made key n h r.expanded ek in
-      rw (← em, ea) (record {
-        expanded = schedule_more key n h r.expanded ek;
-        encrypted = each_more (round_keys key) blocks n r.encrypted (rw made et) refl;
-        room = rw length-set r.room;
-        stored = keys_more keys n k r.room h ek ∙ r.stored;
-      })
-
-  pub reached_all : {k : Quad} {s : List Quad} {keys : List ℕ} {n : ℕ} → Reached key blocks n k s keys → n ≡ 32
-      → (s ≡ map (steps linear (round_keys key) 32) blocks) × (keys ≡ round_keys key)
-  reached_all {k} {s} {keys} {n} r e = (rw e at r.encrypted, sym (keys_end keys n k r.room e) ∙ r.stored)
+-- a step of the key schedule, and of each block with the key that it gives
+pub fresh_more : (key : List ℕ) (blocks : List Quad) (n : ℕ) {k next : Quad} {s t : List Quad} {keys after : List ℕ} {m : ℕ}
+    → Expanded key n k keys × (s ≡ map (steps linear (round_keys key) n) blocks) → n < 32 → next ≡ step linear_key (ck n) k → after ≡ set keys n next.d
+    → t ≡ map (step linear next.d) s → n + 1 ≡ m → Expanded key m next after × (t ≡ map (steps linear (round_keys key) m) blocks)
+fresh_more key blocks n x h e ea et em =
+    (expanded_more key n x.0 h e ea em, each_more (round_keys key) blocks n x.1 (rw (round_key_made key n x.0 h e) et) em)

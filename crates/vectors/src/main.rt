@@ -24,10 +24,8 @@ fn show_digest(rt: &impl Print, name: &str, message: &[u8]) -> io::Result<()> {
 // The 64 bytes "abcd" sixteen times.
 fn repeated() -> [u8; 64] {
     let mut message = [0u8; 64];
-    let mut i = 0;
-    while i < 64 {
+    for i in 0..64 {
         message[i] = b'a' + (i % 4) as u8;
-        i += 1;
     }
     message
 }
@@ -35,10 +33,8 @@ fn repeated() -> [u8; 64] {
 // The block encrypted again and again under the same round keys.
 fn encrypted(keys: [u32; 32], start: [u8; 16], times: usize) -> [u8; 16] {
     let mut block = start;
-    let mut i = 0;
-    while i < times {
-        block = encrypt(&keys, &block).block;
-        i += 1;
+    for _ in 0..times {
+        block = encrypt(&keys, &block).unwrap();
     }
     block
 }
@@ -48,7 +44,7 @@ fn show_encrypted(rt: &impl Print, name: &str, times: usize) -> io::Result<()> {
         0x01, 0x23, 0x45, 0x67, 0x89, 0xab, 0xcd, 0xef, 0xfe, 0xdc, 0xba, 0x98, 0x76, 0x54, 0x32,
         0x10u8,
     ];
-    let keys = round_keys(&example).words;
+    let keys = round_keys(&example).unwrap();
     let block = encrypted(keys, example, times);
     show(rt, name, &block)
 }

@@ -1,27 +1,31 @@
-use Rattle.std.proofs.Common.{◌≡◌, ◌∙◌, sym, refl, arith, length-set}
-use Rattle.sm4.specs.Sm4.{steps, round_keys}
-use Rattle.sm4.specs.EncryptLaws.{keys_more, keys_end, schedule_more, round_more}
+use Rattle.std.proofs.Common.{◌≡◌, ◌<◌, ◌*◌, ◌+◌, refl, arith}
+use Rattle.sm4.specs.Sm4.{steps}
+use Rattle.sm4.specs.ScheduleLaws.{expanded_none, expanded_all}
+use Rattle.sm4.specs.SidesLaws.{sides_more}
 use Rattle.sm4.proofs.sides.sides_from.Goals as goal
 
 pub loop-i-init : goal.loop-i-init
-unfolding steps round_keys
-loop-i-init c =
-    record { expanded = rw (c.masked-k.ensures, c.words_of.ensures); encrypted = refl; all = c.requires.keys_len; left = rw (c.masked-k.ensures, c.words_of.ensures) }
+unfolding steps
+loop-i-init c = (expanded_none c.args.key.now c.requires.keys_len c.words_of.ensures c.masked-k.ensures, refl)
 
 pub loop-i-preserved : goal.loop-i-preserved
 loop-i-preserved c =
-    let inv = c.loop-i.invariant in
-    let h = c.loop-i-test.true in
-    let next = c.next_key-k.ensures.value in
-    rw c.next_key-k.ensures.keys_after (record {
-      expanded = schedule_more c.args.key.now c.loop-i.i h inv.expanded next;
-      encrypted = round_more c.args.key.now c.loop-i.i h inv.expanded next c.args.block inv.encrypted c.step-q.ensures;
-      all = rw length-set inv.all;
-      left = keys_more c.loop-i.keys c.loop-i.i c.loop-i.k inv.all h next ∙ inv.left;
-    })
+    let key = c.args.key.now in
+    let block = c.args.block in
+    let i = 4 * c.loop-i.i in
+    let last : i + 3 < 32 = omega arith in
+    let before : i + 2 < 32 = omega arith in
+    let earlier : i + 1 < 32 = omega arith in
+    let first : i < 32 = omega arith in
+    let second : i + 1 + 1 ≡ i + 2 = omega arith in
+    let third : i + 2 + 1 ≡ i + 3 = omega arith in
+    let fourth : i + 3 + 1 ≡ 4 * (c.loop-i.i + 1) = omega arith in
+    let once = sides_more key block i c.loop-i.invariant first c.next_key-k.ensures.value c.next_key-k.ensures.keys_after c.step-q.ensures refl in
+    let twice = sides_more key block (i + 1) once earlier c.next_key-k-in-loop-i.ensures.value c.next_key-k-in-loop-i.ensures.keys_after c.step-q-in-loop-i.ensures second in
+    let thrice = sides_more key block (i + 2) twice before c.next_key-k-in-loop-i-2.ensures.value c.next_key-k-in-loop-i-2.ensures.keys_after c.step-q-in-loop-i-2.ensures third in
+    sides_more key block (i + 3) thrice last c.next_key-k-in-loop-i-3.ensures.value c.next_key-k-in-loop-i-3.ensures.keys_after c.step-q-in-loop-i-3.ensures fourth
 
 pub returns : goal.returns
 returns c =
-    let inv = c.loop-i.invariant in
-    let e : c.loop-i.i ≡ 32 = omega arith in
-    record { value = rw e at inv.encrypted; keys_after = sym (keys_end c.loop-i.keys c.loop-i.i c.loop-i.k inv.all e) ∙ inv.left }
+    let e : 4 * c.loop-i.i ≡ 32 = omega arith in
+    record { value = rw e at c.loop-i.invariant.1; keys_after = expanded_all c.args.key.now c.loop-i.invariant.0 e }

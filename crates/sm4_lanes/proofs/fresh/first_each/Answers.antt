@@ -1,9 +1,11 @@
 use Rattle.std.proofs.Common.{◌≡◌, ◌<◌, ◌*◌, ◌+◌, refl, arith}
-use Rattle.sm4_lanes.specs.LanesLaws.{reached_none, reached_more, reached_all}
+use Rattle.sm4.specs.Sm4.{round_keys}
+use Rattle.sm4.specs.ScheduleLaws.{expanded_none, expanded_all}
+use Rattle.sm4_lanes.specs.LanesLaws.{each_none, fresh_more}
 use Rattle.sm4_lanes.proofs.fresh.first_each.Goals as goal
 
 pub loop-i-init : goal.loop-i-init
-loop-i-init g c = reached_none c.args.key.now c.args.blocks c.requires.keys_len c.words_of.ensures c.masked-k.ensures
+loop-i-init g c = (expanded_none c.args.key.now c.requires.keys_len c.words_of.ensures c.masked-k.ensures, each_none (round_keys c.args.key.now) c.args.blocks)
 
 pub loop-i-preserved : goal.loop-i-preserved
 loop-i-preserved g c =
@@ -17,12 +19,12 @@ loop-i-preserved g c =
     let second : i + 1 + 1 ≡ i + 2 = omega arith in
     let third : i + 2 + 1 ≡ i + 3 = omega arith in
     let fourth : i + 3 + 1 ≡ 4 * (c.loop-i.i + 1) = omega arith in
-    let once = reached_more key blocks i c.loop-i.invariant first c.next_key-k.ensures.value c.step_each-s.ensures c.next_key-k.ensures.keys_after refl in
-    let twice = reached_more key blocks (i + 1) once earlier c.next_key-k-in-loop-i.ensures.value c.step_each-s-in-loop-i.ensures c.next_key-k-in-loop-i.ensures.keys_after second in
-    let thrice = reached_more key blocks (i + 2) twice before c.next_key-k-in-loop-i-2.ensures.value c.step_each-s-in-loop-i-2.ensures c.next_key-k-in-loop-i-2.ensures.keys_after third in
-    reached_more key blocks (i + 3) thrice last c.next_key-k-in-loop-i-3.ensures.value c.step_each-s-in-loop-i-3.ensures c.next_key-k-in-loop-i-3.ensures.keys_after fourth
+    let once = fresh_more key blocks i c.loop-i.invariant first c.next_key-k.ensures.value c.next_key-k.ensures.keys_after c.step_each-s.ensures refl in
+    let twice = fresh_more key blocks (i + 1) once earlier c.next_key-k-in-loop-i.ensures.value c.next_key-k-in-loop-i.ensures.keys_after c.step_each-s-in-loop-i.ensures second in
+    let thrice = fresh_more key blocks (i + 2) twice before c.next_key-k-in-loop-i-2.ensures.value c.next_key-k-in-loop-i-2.ensures.keys_after c.step_each-s-in-loop-i-2.ensures third in
+    fresh_more key blocks (i + 3) thrice last c.next_key-k-in-loop-i-3.ensures.value c.next_key-k-in-loop-i-3.ensures.keys_after c.step_each-s-in-loop-i-3.ensures fourth
 
 pub returns : goal.returns
 returns g c =
-    let all = reached_all c.args.key.now c.args.blocks c.loop-i.invariant (omega arith) in
-    record { value = all.0; keys_after = all.1 }
+    let e : 4 * c.loop-i.i ≡ 32 = omega arith in
+    record { value = rw e at c.loop-i.invariant.1; keys_after = expanded_all c.args.key.now c.loop-i.invariant.0 e }
