@@ -89,12 +89,12 @@ decimal_few k x l = digits-few 20 k x l
 pub puts_both : (x y : List ℕ) {a b c : Printed} → Puts a x b → Puts b y c → Puts a (x ++ y) c
 puts_both x y p q t e = q (t ++ x) (p t e) ∙ ap printed_of (append_assoc t x y)
 
-pub part_copied : (bytes more : List ℕ) (at : ℕ) {part : List ℕ} → part ≡ take (length more) more ++ drop (length more) (take (at + length more - at) (drop at bytes))
+pub part_copied : (bytes more : List ℕ) (at : ℕ) {part : List ℕ} → part ≡ more ++ drop (length more) (take (at + length more - at) (drop at bytes))
     → take at bytes ++ (part ++ drop (at + length more - at) (drop at bytes)) ≡ take at bytes ++ (more ++ drop (at + length more) bytes)
 part_copied bytes more at p =
     let e : at + length more - at ≡ length more = omega arith in
     let l : length (take (length more) (drop at bytes)) ≤ length more = rw length-take (omega arith) in
-    rw (p, e, take-length more, drop_of_length-le (take (length more) (drop at bytes)) l, append-nil more, drop-drop (length more) at bytes)
+    rw (p, e, drop_of_length-le (take (length more) (drop at bytes)) l, append-nil more, drop-drop (length more) at bytes)
 
 pub text-put : (text : Printed) (more : List ℕ) {bytes : List ℕ} → bytes ≡ take text.len text.bytes ++ (more ++ drop (text.len + length more) text.bytes)
     → Puts text more (record { len = text.len + length more; bytes = bytes })

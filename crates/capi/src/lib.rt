@@ -60,10 +60,7 @@ pub extern "C" fn dl_sm4_encrypt(keys: &[u32], block: &[u8], out: &mut [u8]) -> 
 fn factor(flag: u8, number: u64) -> Factor
     ensures { result ≡ factor_of flag number }
 {
-    if flag == 0 {
-        return Factor::Absent;
-    }
-    Factor::Present(number)
+    (flag != 0).then_some(number)
 }
 
 // The password of the given factors, into the first `digits` bytes of out.
@@ -83,5 +80,8 @@ pub extern "C" fn dl_password(
 {
     let at = factor(has_time, time);
     let number = factor(has_count, count as u64);
-    password(algorithm, key, at, number, challenge, digits as usize, out)
+    match password(algorithm, key, at, number, challenge, digits as usize, out) {
+        Ok(()) => DONE,
+        Err(BadArgument) => BAD_ARGUMENT,
+    }
 }

@@ -1,12 +1,11 @@
 -- Demand 1 (`Demand1`): every branch of a call gives a listed code and leaves the bytes named for it.
-use Rattle.std.specs.Prelude.{ℕ, ◌≡◌, refl, Bool, true, false, ◌&&◌, ◌||◌, Err}
+use Rattle.std.specs.Prelude.{ℕ, ◌≡◌, refl, Bool, true, false, ◌&&◌, ◌||◌, Some, None, Err}
 use mathlib.Core.List.{List, []}
 use Rattle.words.specs.Lists.{one_of}
 use Rattle.words.specs.BoolLaws.{and_left, and_right, clash}
 use Rattle.window.specs.PasswordAt.{PasswordRule}
-use Rattle.row.specs.declared.reading.Place.{Place}
 use Rattle.row.specs.Row.{row_bytes}
-use Rattle.row.specs.Table.{find_row, store_row}
+use Rattle.row.specs.Table.{Place, find_row, store_row}
 use Rattle.token.specs.declared.answers.Refusal.{Refusal}
 use Rattle.token.specs.Lines.{allowed, state_refusal}
 use Rattle.token.specs.Codes.{refusal_number, number_of}
@@ -89,8 +88,8 @@ module _ (passwords : PasswordRule) (s : List ℕ) (at clock : ℕ) where
 -- ---- the calls
 
 pub unchanged_anywhere : (s : List ℕ) (place : Place) → s ≡ at_place s place (λ at. s)
-unchanged_anywhere s (Place.At at) = refl
-unchanged_anywhere s Place.Nowhere = refl
+unchanged_anywhere s (Some at) = refl
+unchanged_anywhere s None = refl
 
 abbrev Meets : PasswordRule → DeskCall → List ℕ → Result → Type 0
 Meets passwords call s x = (one_of (number_of x.answer) (codes_of call) ≡ true) × (x.table ≡ bytes_for passwords call s x.answer)

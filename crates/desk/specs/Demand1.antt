@@ -1,13 +1,12 @@
 -- The buyer's first demand (docs/OFFER.md): one of the codes listed for the call, and the bytes named for that code. It holds for every
 -- password rule; `Demand1Laws` has the proof.
 use Rattle.token.specs.Answers.{Answer}
-use Rattle.std.specs.Prelude.{ℕ, ◌≡◌, Bool, true, ◌&&◌, ◌||◌, cond, List, [], ◌∷◌, eqb, Err, Ok}
+use Rattle.std.specs.Prelude.{ℕ, ◌≡◌, Bool, true, ◌&&◌, ◌||◌, cond, List, [], ◌∷◌, eqb, Some, None, Err, Ok}
 use Rattle.words.specs.Lists.{one_of}
 use Rattle.window.specs.PasswordAt.{PasswordRule}
 use Rattle.row.specs.declared.Row.{Row}
-use Rattle.row.specs.declared.reading.Place.{Place}
 use Rattle.row.specs.Row.{row_bytes, row_at}
-use Rattle.row.specs.Table.{find_row, find_empty, store_row, wipe_key, write_row}
+use Rattle.row.specs.Table.{Place, find_row, find_empty, store_row, wipe_key, write_row}
 use Rattle.token.specs.declared.answers.Content.{Content}
 use Rattle.token.specs.Codes.{number_of}
 use Rattle.token.specs.States.{waited, with_state, accepted, failed}
@@ -33,8 +32,8 @@ codes_of (DeskCall.load p key) = 0x0140 ∷ 0x9005 ∷ 0x8411 ∷ 0x8410 ∷ []
 codes_of (DeskCall.named request serial clock) = 0x9005 ∷ 0x8402 ∷ 0x8403 ∷ request_codes request
 
 abbrev pub at_place : List ℕ → Place → (ℕ → List ℕ) → List ℕ
-at_place s (Place.At at) written = written at
-at_place s Place.Nowhere written = s
+at_place s (Some at) written = written at
+at_place s None written = s
 
 -- the column "Left in the table": the codes that leave only a wait run out, and those that add an error
 abbrev pub wait_codes : List ℕ

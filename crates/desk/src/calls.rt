@@ -101,8 +101,13 @@ pub fn sync(
     }
     let p = password_of(password).ok_or(Refusal::BadArgument)?;
     let q = password_of(following).ok_or(Refusal::BadArgument)?;
-    let size = size_of(choice);
-    serve(table, serial, clock, Request::Sync(size, p, q), b"")
+    serve(
+        table,
+        serial,
+        clock,
+        Request::Sync(size_of(choice), p, q),
+        b"",
+    )
 }
 
 // The call `void`.

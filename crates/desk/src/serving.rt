@@ -3,11 +3,11 @@ ghost use Rattle.std.specs.Prelude.{◌≡◌, ◌+◌, ◌≤◌, length};
 ghost use Rattle.window.specs.PasswordAt.{password_at};
 ghost use Rattle.row.specs.Row.{row_bytes};
 ghost use Rattle.desk.specs.Requests.{query_call, challenge_fits};
-ghost use Rattle.desk.specs.Desk.{result_of, left_at, missing, served, desk_after};
+ghost use Rattle.desk.specs.Desk.{result_of, left_at, served, desk_after};
 
 use crate::arguments::lent_ok;
 use otp::challenge_ok;
-use row::{KEY, LAST_STATE, Located, ROW_BYTES, locate, store_row, wipe_key};
+use row::{KEY, LAST_STATE, ROW_BYTES, locate, store_row, wipe_key};
 use token::{Answer, Left, Refusal, Request, decide, report};
 use window::Seconds;
 
@@ -23,17 +23,6 @@ fn leave(table: &mut [u8], at: usize, left: Left)
             store_row(table, at, row);
             wipe_key(table, at);
         }
-    }
-}
-
-// What is said where there is no row to serve.
-fn missing(located: Located) -> Refusal
-    ensures { result ≡ missing located }
-{
-    match located {
-        Located::At(_, _) => Refusal::Unknown,
-        Located::Unknown => Refusal::Unknown,
-        Located::Damaged => Refusal::Damaged,
     }
 }
 
@@ -60,15 +49,11 @@ pub fn serve(
     if !(lent_ok(table, clock) & challenge_fits(request, challenge)) {
         return Err(Refusal::BadArgument);
     }
-    let located = locate(table, ROW_BYTES, LAST_STATE, serial);
-    let Located::At(at, row) = located else {
-        return Err(missing(located));
-    };
-    let start = at + KEY;
-    let end = start + row.key_length as usize;
-    let decision = decide(request, row, clock, &table[start..end], challenge);
-    let left = decision.left;
-    leave(table, at, left);
+    let located = locate(table, ROW_BYTES, LAST_STATE, serial)?;
+    let start = located.at + KEY;
+    let end = start + located.row.key_length as usize;
+    let decision = decide(request, located.row, clock, &table[start..end], challenge);
+    leave(table, located.at, decision.left);
     decision.answer
 }
 
@@ -79,9 +64,6 @@ pub fn query(table: &[u8], serial: u64, clock: Seconds) -> Answer
     if !lent_ok(table, clock) {
         return Err(Refusal::BadArgument);
     }
-    let located = locate(table, ROW_BYTES, LAST_STATE, serial);
-    let Located::At(_, row) = located else {
-        return Err(missing(located));
-    };
-    report(row, clock)
+    let located = locate(table, ROW_BYTES, LAST_STATE, serial)?;
+    report(located.row, clock)
 }

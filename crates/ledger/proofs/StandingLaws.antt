@@ -1,5 +1,5 @@
 -- A token whose row stands in a table between other bytes: what is read of it, and what a request leaves.
-use Rattle.std.specs.Prelude.{ℕ, ◌+◌, ◌^◌, ◌<◌, ◌≡◌, true, false, eqb, length, get_or, drop, replicate}
+use Rattle.std.specs.Prelude.{ℕ, ◌+◌, ◌^◌, ◌<◌, ◌≡◌, true, false, eqb, length, get_or, drop, replicate, Some}
 use Rattle.std.proofs.Common.{sym, ◌∙◌, ne_eqb, length-append, take_at, drop_at, take-take}
 use Rattle.std.proofs.Math.Path.{ap}
 use mathlib.Core.List.{List, ◌++◌, append_assoc}
@@ -10,7 +10,6 @@ use Rattle.words.specs.Lists.{all_zero}
 use Rattle.words.specs.Bytes.{be_bytes}
 use Rattle.window.specs.PasswordAt.{PasswordRule}
 use Rattle.row.specs.declared.Row.{Row}
-use Rattle.row.specs.declared.reading.Place.{Place}
 use Rattle.row.specs.Row.{key_bytes, last_state, row_at, key_at, before_key, step_bytes, time_bytes, render, zeros_ok, well_formed}
 use Rattle.row.specs.RowLaws.{numbers_parsed, key_parsed, length-before_key}
 use Rattle.row.specs.RangeLaws.{length_in_range}
@@ -115,7 +114,7 @@ module _ (s : List ℕ) (at : ℕ) (t : Token) (before behind : List ℕ) (stand
       (row-stored s at t.row t.key before behind stands place good.long x leaves.same) place good.long
 
   pub request_served : (passwords : PasswordRule) (request : Request) (clock : ℕ) → clock < 2 ^ 40
-      → served_from passwords (valued request) (challenge_of request) clock s (located_at last_state s (Place.At at))
+      → served_from passwords (valued request) (challenge_of request) clock s (located_at last_state s (Some at))
       ≡ record { answer = (decided_on passwords request clock t).answer; table = between before (kept t (decided_on passwords request clock t).left) behind }
   unfolding served_at
   request_served passwords request clock h =

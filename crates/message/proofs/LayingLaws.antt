@@ -60,14 +60,14 @@ module _ (s : List ℕ) (at id : ℕ) (content : List ℕ) (room : at + 4 + leng
   pub item_room : at + 4 + length content ≤ length lengthened
   item_room = let l = length_identified in rw length-set (omega arith)
 
-  pub item-laid : {part : List ℕ} → part ≡ take (length content) content ++ drop (length content) (take (at + 4 + length content - (at + 4)) (drop (at + 4) lengthened))
+  pub item-laid : {part : List ℕ} → part ≡ content ++ drop (length content) (take (at + 4 + length content - (at + 4)) (drop (at + 4) lengthened))
       → take (at + 4) lengthened ++ (part ++ drop (at + 4 + length content - (at + 4)) (drop (at + 4) lengthened)) ≡ put s at (item_bytes (record { identifier = id; content = content }))
   unfolding item_bytes be_bytes
   item-laid p =
       put-part lengthened (at + 4) content item_room p
       ∙ rw item-front (put_on s at (0 ∷ (be_bytes 2 id ++ (length content ∷ []))) content (omega arith))
 
-  pub item-kept : {part : List ℕ} → part ≡ take (length content) content ++ drop (length content) (take (at + 4 + length content - (at + 4)) (drop (at + 4) lengthened))
+  pub item-kept : {part : List ℕ} → part ≡ content ++ drop (length content) (take (at + 4 + length content - (at + 4)) (drop (at + 4) lengthened))
       → length (take (at + 4) lengthened ++ (part ++ drop (at + 4 + length content - (at + 4)) (drop (at + 4) lengthened))) ≡ length s
   item-kept p =
       let i : Item = record { identifier = id; content = content } in

@@ -1,5 +1,5 @@
 -- What each branch of writing a message returns.
-use Rattle.std.specs.Prelude.{ℕ, ◌+◌, ◌*◌, ◌-◌, ◌^◌, ◌≤◌, ◌<◌, ◌≡◌, Bool, false, ◌&&◌, not, List, ◌++◌, eqb, length, take, drop}
+use Rattle.std.specs.Prelude.{ℕ, ◌+◌, ◌*◌, ◌-◌, ◌^◌, ◌≤◌, ◌<◌, ◌≡◌, Bool, false, ◌&&◌, not, List, ◌++◌, eqb, length, take, drop, Ok}
 use Rattle.std.proofs.Math.Path.{sym}
 use Rattle.std.proofs.Common.{◌∙◌, length-take-le}
 use Rattle.std.proofs.Math.Bool.{true}
@@ -7,11 +7,10 @@ use native.Mathlib.Omega.{arith}
 use borrow.Author.Tests.{leb-true, leb-false, le-leb, eq-eqb, eqb-true, not-true, not-false}
 use Rattle.std.proofs.Math.Dec.{leb}
 use Rattle.words.specs.Lists.{one_of}
-use Rattle.words.specs.Codes.{done, bad_argument}
 use Rattle.words.specs.BoolLaws.{and_left, and_right, and_both, by-test, clash}
 use Rattle.message.specs.declared.reading.Heading.{Heading}
 use Rattle.message.specs.Message.{Message, kinds, head_length, body_bytes}
-use Rattle.message.specs.Writing.{message_bytes, rising, items_hold, writable, wrote, items_as_lent, sum, together, items_lent, message_of, write_lent}
+use Rattle.message.specs.Writing.{message_bytes, rising, items_hold, writable, wrote, not_written, items_as_lent, sum, together, items_lent, message_of, write_lent}
 use Rattle.message.specs.Lending.{heading_fits, lent_fit}
 use Rattle.message.proofs.LendingLaws.{fit-both, fit_is, count-lent, length-lent}
 use Rattle.message.proofs.ReadLaws.{length_mac}
@@ -72,7 +71,7 @@ module _ (h : Heading) (identifiers lengths contents : List ℕ) where
           four = λ sealed. length_mac lent;
         })
 
-  refused_unless : (out : List ℕ) → (Tested → ⊥) → wrote (record { code = bad_argument; len = 0 }) out ≡ write_lent h (items_lent identifiers lengths contents) out
+  refused_unless : (out : List ℕ) → (Tested → ⊥) → wrote not_written out ≡ write_lent h (items_lent identifiers lengths contents) out
   unfolding items_lent together
   refused_unless out untested =
       by-test (together identifiers lengths contents)
@@ -85,7 +84,7 @@ module _ (h : Heading) (identifiers lengths contents : List ℕ) where
 
   module _ (out : List ℕ) {fits : Bool} (heading : fits ≡ heading_fits h) where
     pub refused_early : not ((fits && leb (length identifiers) 0xff) && leb (length contents) 0xffff) ≡ true
-        → wrote (record { code = bad_argument; len = 0 }) out ≡ write_lent h (items_lent identifiers lengths contents) out
+        → wrote not_written out ≡ write_lent h (items_lent identifiers lengths contents) out
     refused_early n =
         refused_unless out
         (λ t. let body = t.body in
@@ -128,7 +127,7 @@ module _ (h : Heading) (identifiers lengths contents : List ℕ) where
       together_of t = and_both (eq-eqb (length identifiers) (length lengths) (counts_of t)) (eq-eqb (sum lengths) (length contents) (sums_of t))
 
       pub refused-late : not ((leb size 0xffff && leb (start + size) (length out)) && fit) ≡ true
-          → wrote (record { code = bad_argument; len = 0 }) out ≡ write_lent h (items_lent identifiers lengths contents) out
+          → wrote not_written out ≡ write_lent h (items_lent identifiers lengths contents) out
       unfolding items_lent
       refused-late n =
           by-test (leb (start + size) (length out))
@@ -158,7 +157,7 @@ module _ (h : Heading) (identifiers lengths contents : List ℕ) where
           )
 
       pub written : not ((leb size 0xffff && leb (start + size) (length out)) && fit) ≡ false → {part : List ℕ} → part ≡ message_bytes lent
-          → wrote (record { code = done; len = start + size }) (take 0 out ++ (part ++ drop (start + size - 0) (drop 0 out))) ≡ write_lent h (items_lent identifiers lengths contents) out
+          → wrote (Ok (start + size)) (take 0 out ++ (part ++ drop (start + size - 0) (drop 0 out))) ≡ write_lent h (items_lent identifiers lengths contents) out
       unfolding items_lent
       written n {part} p =
           let a = all-passed n in

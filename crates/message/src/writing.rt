@@ -3,10 +3,10 @@ ghost use Rattle.std.specs.Prelude.{◌≡◌};
 ghost use Rattle.message.specs.Writing.{wrote, items_lent, write_lent};
 ghost use Rattle.message.specs.Lending.{lent_fit, heading_fits};
 
-use crate::frame::{EMPTY_BODY, head_length, is_named};
+use crate::frame::{EMPTY_BODY, ITEM_HEAD, head_length, is_named};
 use crate::laying::lay_message;
 use crate::reading::Heading;
-use words::codes::{BAD_ARGUMENT, DONE};
+use words::codes::BadArgument;
 
 const MOST_ITEMS: usize = 0xff;
 
@@ -16,21 +16,6 @@ const MOST_BODY: usize = 0xffff;
 
 // The most that two bytes hold: a service, options, an identifier.
 const MOST: u32 = 0xffff;
-
-// Attribute, identifier and length of an item.
-const ITEM_HEAD: usize = 4;
-
-// The code, and the message's length where it was written.
-#[derive(Clone, Copy)]
-pub struct Written {
-    pub code: u16,
-    pub len: usize,
-}
-
-const REFUSED: Written = Written {
-    code: BAD_ARGUMENT,
-    len: 0,
-};
 
 // Whether the type is named, and service and options are no more than their fields hold.
 fn heading_fits(heading: Heading) -> bool
@@ -69,22 +54,19 @@ pub fn write_message(
     lengths: &[u32],
     contents: &[u8],
     out: &mut [u8],
-) -> Written
+) -> Result<usize, BadArgument>
     ensures { wrote result out.new ≡ write_lent heading (items_lent identifiers.now lengths.now contents.now) out.old }
 {
     let count = identifiers.len();
     let bytes = contents.len();
     if !(heading_fits(heading) & (count <= MOST_ITEMS) & (bytes <= MOST_BODY)) {
-        return REFUSED;
+        return Err(BadArgument);
     }
     let size = EMPTY_BODY + ITEM_HEAD * count + bytes;
     let end = head_length(heading.kind as u8) + size;
     if !((size <= MOST_BODY) & (end <= out.len()) & items_fit(identifiers, lengths, bytes)) {
-        return REFUSED;
+        return Err(BadArgument);
     }
     lay_message(heading, identifiers, lengths, contents, &mut out[0..end]);
-    Written {
-        code: DONE,
-        len: end,
-    }
+    Ok(end)
 }

@@ -52,6 +52,6 @@ pub(crate) fn ciphered(
 {
     let mut buffer = [0u8; 48];
     let end = put_id(&mut buffer, 0, time, count, challenge);
-    let first = encrypt_words(keys, words_of(&buffer[0..16])).output;
+    let first = encrypt_words(keys, words_of(&buffer[0..16])).unwrap();
     cut_words(chain(keys, &buffer, first, (end + 15) / 16))
 }

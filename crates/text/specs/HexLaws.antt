@@ -11,9 +11,9 @@ use Rattle.text.specs.Text.{digit_value, decoded, decoded_of, hex_left, put_fron
 use Rattle.text.specs.Steps.{all_hex, pairs_of}
 use Rattle.text.specs.TextLaws.{hex_is, length_pairs}
 
-pub digits-padded : (s : List ℕ) {digits : List ℕ} → digits ≡ take (length s) s ++ drop (length s) (replicate 64 0x30)
+pub digits-padded : (s : List ℕ) {digits : List ℕ} → digits ≡ s ++ drop (length s) (replicate 64 0x30)
     → digits ≡ s ++ replicate (64 - length s) 0x30
-digits-padded s e = e ∙ rw (take-length s, drop-replicate (length s) 64 0x30)
+digits-padded s e = e ∙ rw (drop-replicate (length s) 64 0x30)
 
 -- one more digit is valued
 pub values_more : (digits values : List ℕ) (i : ℕ) {d : ℕ} → i < length digits → i < length values → d ≡ digit_value (slice_index digits i)

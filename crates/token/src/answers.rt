@@ -1,4 +1,8 @@
 // What a call says (document 01, Part 5 and "What a turned-down call says"). `number_of` of specs/Codes.antt gives each case its code.
+ghost use Rattle.std.specs.Prelude.{◌≡◌};
+ghost use Rattle.token.specs.Answers.{missing};
+
+use row::Unserved;
 use window::{Offset, Seconds, Step};
 
 // What a query tells of a token.
@@ -52,3 +56,15 @@ pub struct Success {
 
 // What a call says.
 pub type Answer = Result<Success, Refusal>;
+
+// What is said where there is no row to serve.
+impl From<Unserved> for Refusal {
+    ghost from_gives = { λ unserved refusal. refusal ≡ missing unserved };
+
+    fn from(unserved: Unserved) -> Refusal {
+        match unserved {
+            Unserved::Unknown => Refusal::Unknown,
+            Unserved::Damaged => Refusal::Damaged,
+        }
+    }
+}

@@ -49,25 +49,22 @@ fn left_by(after: After, row: Row) -> Left
 fn changing(line: Line, row: Row) -> Decision
     ensures { result ≡ changing line row }
 {
-    let after = line.after;
-    let left = left_by(after, row);
     Decision {
         answer: Ok(Success {
             number: line.success,
             content: Content::Plain,
         }),
-        left,
+        left: left_by(line.after, row),
     }
 }
 
 fn telling(line: Line, row: Row) -> Decision
     ensures { result ≡ telling line row }
 {
-    let last_use = row.last_use;
     let status = Status {
         state: row.state,
         errors: row.errors,
-        last_use,
+        last_use: row.last_use,
     };
     Decision {
         answer: Ok(Success {
@@ -87,8 +84,7 @@ fn judging(line: Line, fails: Fails, row: Row, clock: Seconds, outcome: Outcome)
     match outcome {
         Outcome::Accepted(a) => {
             let offset = offset_after(row.track, clock, a);
-            let after = line.after;
-            let left = left_by(after, accepted(row, clock, a));
+            let left = left_by(line.after, accepted(row, clock, a));
             Decision {
                 answer: Ok(Success {
                     number: line.success,
@@ -97,22 +93,13 @@ fn judging(line: Line, fails: Fails, row: Row, clock: Seconds, outcome: Outcome)
                 left,
             }
         }
-        Outcome::Several => {
-            let refusal = fails.several;
-            refusing(refusal, row)
-        }
-        Outcome::Again => {
-            let refusal = fails.used;
-            refusing(refusal, repeated(row, clock, fails.forgives, fails.locks))
-        }
-        Outcome::Used => {
-            let refusal = fails.used;
-            refusing(refusal, failed(row, clock, fails.locks))
-        }
-        Outcome::Wrong => {
-            let refusal = fails.wrong;
-            refusing(refusal, failed(row, clock, fails.locks))
-        }
+        Outcome::Several => refusing(fails.several, row),
+        Outcome::Again => refusing(
+            fails.used,
+            repeated(row, clock, fails.forgives, fails.locks),
+        ),
+        Outcome::Used => refusing(fails.used, failed(row, clock, fails.locks)),
+        Outcome::Wrong => refusing(fails.wrong, failed(row, clock, fails.locks)),
     }
 }
 
@@ -124,12 +111,10 @@ pub fn decide(request: Request, row: Row, clock: Seconds, key: &[u8], challenge:
 {
     let line = line_of(request);
     let found = waited(row, clock);
-    let needs = line.needs;
-    if !allowed(needs, found.state) {
+    if !allowed(line.needs, found.state) {
         return refusing(state_refusal(found.state), found);
     }
-    let way = line.way;
-    match way {
+    match line.way {
         Way::Changes => changing(line, found),
         Way::Tells => telling(line, found),
         Way::Checks(asked, fails) => {
@@ -137,8 +122,7 @@ pub fn decide(request: Request, row: Row, clock: Seconds, key: &[u8], challenge:
                 return refusing(Refusal::Expired, found);
             }
             let swept = check(found.track, clock, key, challenge, asked);
-            let outcome = swept.outcome;
-            judging(line, fails, found, clock, outcome)
+            judging(line, fails, found, clock, swept.outcome)
         }
     }
 }
@@ -147,6 +131,5 @@ pub fn decide(request: Request, row: Row, clock: Seconds, key: &[u8], challenge:
 pub fn report(row: Row, clock: Seconds) -> Answer
     ensures { result ≡ (telling (line_of Request.Query) (waited row clock.0)).answer }
 {
-    let decision = telling(line_of(Request::Query), waited(row, clock));
-    decision.answer
+    telling(line_of(Request::Query), waited(row, clock)).answer
 }

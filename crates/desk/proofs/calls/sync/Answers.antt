@@ -38,4 +38,4 @@ returns c =
     let right : eqb choice 1 || eqb choice 2 ≡ true = not-false _ c.if-not-choice.false-raw in
     let first = typed-given _ _ c.password_of.ensures c.ok_or.ensures.value (c.in_ok-p.was) in
     let second = typed-given _ _ c.password_of-2.ensures c.ok_or-2.ensures.value (c.in_ok-q.was) in
-    call-served _ _ _ _ _ (rw (right, first.0, second.0)) (rw (c.size_of-size.ensures, first.1, second.1)) c.serve.ensures
+    call-served _ _ _ _ _ (rw (right, first.0, second.0)) (rw (c.size_of.ensures, first.1, second.1)) c.serve.ensures

@@ -1,0 +1,28 @@
+use Rattle.std.proofs.Common.{◌≡◌, ◌<◌, ◌*◌, ◌+◌, refl, arith}
+use Rattle.sm4_lanes.specs.LanesLaws.{reached_none, reached_more, reached_all}
+use Rattle.sm4_lanes.proofs.fresh.first_each.Goals as goal
+
+pub loop-i-init : goal.loop-i-init
+loop-i-init g c = reached_none c.args.key.now c.args.blocks c.requires.keys_len c.words_of.ensures c.masked-k.ensures
+
+pub loop-i-preserved : goal.loop-i-preserved
+loop-i-preserved g c =
+    let key = c.args.key.now in
+    let blocks = c.args.blocks in
+    let i = 4 * c.loop-i.i in
+    let last : i + 3 < 32 = omega arith in
+    let before : i + 2 < 32 = omega arith in
+    let earlier : i + 1 < 32 = omega arith in
+    let first : i < 32 = omega arith in
+    let second : i + 1 + 1 ≡ i + 2 = omega arith in
+    let third : i + 2 + 1 ≡ i + 3 = omega arith in
+    let fourth : i + 3 + 1 ≡ 4 * (c.loop-i.i + 1) = omega arith in
+    let once = reached_more key blocks i c.loop-i.invariant first c.next_key-k.ensures.value c.step_each-s.ensures c.next_key-k.ensures.keys_after refl in
+    let twice = reached_more key blocks (i + 1) once earlier c.next_key-k-in-loop-i.ensures.value c.step_each-s-in-loop-i.ensures c.next_key-k-in-loop-i.ensures.keys_after second in
+    let thrice = reached_more key blocks (i + 2) twice before c.next_key-k-in-loop-i-2.ensures.value c.step_each-s-in-loop-i-2.ensures c.next_key-k-in-loop-i-2.ensures.keys_after third in
+    reached_more key blocks (i + 3) thrice last c.next_key-k-in-loop-i-3.ensures.value c.step_each-s-in-loop-i-3.ensures c.next_key-k-in-loop-i-3.ensures.keys_after fourth
+
+pub returns : goal.returns
+returns g c =
+    let all = reached_all c.args.key.now c.args.blocks c.loop-i.invariant (omega arith) in
+    record { value = all.0; keys_after = all.1 }
