@@ -27,11 +27,9 @@ fn answer_next<R: Read, W: Write>(
     input: &mut R,
     output: &mut W,
     line: &mut Pending<LONGEST>,
-    piece: &mut [u8],
-    out: &mut [u8],
+    piece: &mut [u8; PIECE],
+    out: &mut [u8; OUTPUT],
 ) -> Turn
-    requires piece_len { length piece.old ≡ 65536 }
-    requires out_len { length out.old ≡ 720896 }
     ensures bounds { (result.read ≤ 65536) × (result.written ≤ 720896) }
     ensures follows { Follows line.old (take result.read piece.new) line.new (take result.written out.new) }
     ensures taken { Consumes (R.remaining input.old) (R.remaining input.new) (take result.read piece.new) }
@@ -62,12 +60,10 @@ fn answer_pieces<R: Read, W: Write>(
     input: &mut R,
     output: &mut W,
     line: &mut Pending<LONGEST>,
-    piece: &mut [u8],
-    out: &mut [u8],
+    piece: &mut [u8; PIECE],
+    out: &mut [u8; OUTPUT],
 ) -> Turn
-    requires piece_len { length piece.old ≡ 65536 }
-    requires out_len { length out.old ≡ 720896 }
-    requires empty { line.old ≡ Some [] }
+    requires { line.old ≡ Some [] }
     ensures read_value { is_ok result.outcome ≡ true → result.read ≡ 0 }
     ensures leaves { Leaves line.new }
     ensures passes { OnOk result.outcome (Passes (R.remaining input.old) (R.remaining input.new) (W.contents output.old) (W.contents output.new) line.new) }
@@ -92,12 +88,10 @@ pub(crate) fn answer_input<R: Read, W: Write>(
     input: &mut R,
     output: &mut W,
     line: &mut Pending<LONGEST>,
-    piece: &mut [u8],
-    out: &mut [u8],
+    piece: &mut [u8; PIECE],
+    out: &mut [u8; OUTPUT],
 ) -> Turn
-    requires piece_len { length piece.old ≡ 65536 }
-    requires out_len { length out.old ≡ 720896 }
-    requires empty { line.old ≡ Some [] }
+    requires { line.old ≡ Some [] }
     ensures answers { Answers (is_ok result.outcome) line.new (take result.written out.new) }
     ensures output { OnOk result.outcome (IfSome (R.remaining input.old) (λ xs. Appends (W.contents output.old) (W.contents output.new) (output_of xs))) }
 {

@@ -10,7 +10,7 @@ use Rattle.words.specs.ListsLaws.{drop_zeros}
 use Rattle.words.specs.BoolLaws.{by-test, and_false, impossible}
 use Rattle.otp.specs.Password.{Factor, arguments_ok, password_of, password_answer}
 use Rattle.otp.specs.PasswordLaws.{key-short, challenge-short, known_algorithm, digits_low, digits_high, length-password, answer-refused, answer-stored}
-use Rattle.words.specs.Codes.{done, bad_argument}
+use Rattle.words.specs.Codes.{done}
 use Rattle.text.specs.Text.{digit_value, digits_from, decoded, decoded_of, decimal_of, bounded, number_in, hex_of, fields_of, sum_lengths}
 use Rattle.text.specs.TextLaws.{decimal_range, decimal_value, number-value, hex_decoded, decimal_length, hex_length, length_fields, fields_positive}
 use Rattle.password_lines.specs.Fields.{byte_of}
@@ -112,24 +112,25 @@ module _ (algorithm : ℕ) (key : List ℕ) (time count : Factor) (challenge : L
   unfolding password_text
   text-bad t = rw t
 
-  pub text-refused : (out : List ℕ) {code : ℕ} → length out ≡ 10
-      → code ≡ (password_answer algorithm key time count challenge n out).code → (code ≡ done → ⊥)
+  pub text-refused : (out : List ℕ) → length out ≡ 10 → false ≡ eqb (password_answer algorithm key time count challenge n out).code done
       → refusal ≡ password_text algorithm key time count challenge n
-  text-refused out {code} l e h =
+  text-refused out l e =
       by-test (arguments_ok algorithm key time count challenge n)
       (λ t.
       let d = digits_high algorithm key time count challenge n t in
-      absurd (h (e ∙ sym (answer-stored algorithm key time count challenge n out t (omega arith) refl).0)))
+      let code = (answer-stored algorithm key time count challenge n out t (omega arith) refl).0 in
+      let z : false ≡ true = e ∙ rw (← code) refl in impossible (cc))
       (λ t. rw (text-bad t))
 
-  module _ {code : ℕ} {out after : List ℕ} (fresh : out ≡ replicate 10 0)
-      (answer : code ≡ (password_answer algorithm key time count challenge n out).code) (left : after ≡ (password_answer algorithm key time count challenge n out).out)
-      (well : code ≡ done) where
+  module _ {out after : List ℕ} (fresh : out ≡ replicate 10 0) (left : after ≡ (password_answer algorithm key time count challenge n out).out)
+      (well : true ≡ eqb (password_answer algorithm key time count challenge n out).code done) where
     well-given : arguments_ok algorithm key time count challenge n ≡ true
     well-given =
         by-test (arguments_ok algorithm key time count challenge n)
         (λ t. t)
-        (λ t. let z : bad_argument ≡ done = (answer-refused algorithm key time count challenge n out t).0 ∙ sym answer ∙ well in absurd (omega arith))
+        (λ t.
+        let code = (answer-refused algorithm key time count challenge n out t).0 in
+        let z : true ≡ false = well ∙ rw (← code) refl in impossible (cc))
 
     pub text-short : n ≤ 10
     text-short = digits_high algorithm key time count challenge n well-given

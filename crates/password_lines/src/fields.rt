@@ -7,7 +7,6 @@ ghost use Rattle.password_lines.specs.Fields.{byte_of};
 use crate::Printed;
 use otp::{Factor, password};
 use text::{Bytes, decimal, hex};
-use words::codes::DONE;
 
 // T or C: absent where the field is empty, else a number up to `most`.
 fn factor_field(field: &[u8], most: u64) -> Option<Factor>
@@ -50,11 +49,10 @@ fn password_text(
 {
     let mut out = [0u8; 10];
     let n = digits as usize;
-    let code = password(algorithm, key, time, count, challenge, n, &mut out);
-    if code != DONE {
-        return None;
+    match password(algorithm, key, time, count, challenge, n, &mut out) {
+        Ok(()) => Some(Bytes::new(out, n)),
+        Err(_) => None,
     }
-    Some(Bytes::new(out, n))
 }
 
 pub(crate) fn fields_answer(

@@ -12,10 +12,10 @@ returns-in-Err-clause-taken g c = nothing_taken (g.R.Read.remaining c.args.input
 
 pub returns : goal.returns
 returns g c = record {
-  bounds = omega (arith, c.read.auto.buf, c.feed-written.auto.out, c.requires.piece_len, c.requires.out_len, c.in-Ok.ensures.bound.0, c.feed-written.ensures.upper_bound);
+  bounds = omega (arith, c.read.auto.buf, c.feed-written.auto.out, c.in-Ok.ensures.bound.0, c.feed-written.ensures.upper_bound);
   follows = next-fed c.args.line.now c.read.new.buf c.in-Ok.read c.feed-written.ensures.follows;
   taken = c.in-Ok.ensures.bytes.0;
-  end = on_ok c.write_all-outcome.result (λ _ none. c.in-Ok.ensures.bytes.1 none (omega (arith, c.read.auto.buf, c.requires.piece_len)));
+  end = on_ok c.write_all-outcome.result (λ _ none. c.in-Ok.ensures.bytes.1 none (omega (arith, c.read.auto.buf)));
   written =
       front_written c.write_all-outcome.result (g.W.Write.contents c.args.output.now) (g.W.Write.contents c.write_all-outcome.new.self)
       c.feed-written.result c.feed-written.new.out c.write_all-outcome.ensures.bytes;
