@@ -2,7 +2,6 @@ use Rattle.std.proofs.Common.{rules, tests}
 use Rattle.std.proofs.lemmas.Iterator.{YieldsList-from_slice}
 use Rattle.std.proofs.lemmas.Iterator.Search.{all_from_yields_List}
 use Rattle.message.specs.Message.{message_at}
-use Rattle.message_calls.specs.Serving.{items_of}
 use Rattle.message_calls.specs.Finding.{has}
 use Rattle.message_calls.proofs.OnlyLaws.{only_items}
 use Rattle.message_calls.proofs.items.items_fit.Goals as goal
