@@ -1,16 +1,15 @@
 -- What each branch of reading a message and its items returns.
-use Rattle.std.specs.Prelude.{ℕ, zero, suc, ◌+◌, ◌-◌, ◌≤◌, ◌<◌, ◌≡◌, refl, Bool, true, false, not, cond, List, [], ◌∷◌, length, get_or, take, drop, eqb, slice_get, find, Option, Some, None, Result, Ok, Err, option_map, option_copied}
+use Rattle.std.specs.Prelude.{ℕ, zero, suc, ◌+◌, ◌-◌, ◌≤◌, ◌≡◌, refl, Bool, true, false, List, [], ◌∷◌, length, get_or, take, drop, eqb, slice_get, find, Option, Some, None, Result, Ok, Err, option_map}
 use Rattle.std.proofs.Common.{sym, ap, ◌∙◌, arith}
-use borrow.Author.Tests.{not-true, not-false}
 use Rattle.words.specs.Bytes.{be_at}
 use Rattle.words.specs.BoolLaws.{by-test, impossible}
 use Rattle.token.specs.declared.answers.Refusal.{Refusal}
 use Rattle.message.specs.declared.items.ItemPlace.{ItemPlace}
-use Rattle.message.specs.Message.{Item, item_end, items_at, items_end, body_start, count_in, items_start, frame_fits, frame_of, message_at, mac_fits}
-use Rattle.message.specs.Reading.{MessageRead, read_of, heading_of, reading_of, places, places_in, place_in, item_of, content_in}
+use Rattle.message.specs.Message.{Item, item_end, items_at, items_end, count_in, items_start, frame_fits, frame_of, message_at, mac_fits}
+use Rattle.message.specs.Reading.{MessageRead, read_of, places, places_in, place_in, item_of, content_in}
 use Rattle.message.specs.Walking.{framed_as, sealed_as}
-use Rattle.message.specs.WalkLaws.{length-items_at, end-behind, left_end, item-within}
-use Rattle.message.specs.FrameLaws.{items-end, fits-long}
+use Rattle.message.specs.WalkLaws.{end-behind}
+use Rattle.message.specs.FrameLaws.{items-end}
 
 -- ---- bytes that are a message, with a MAC that fits
 

@@ -1,6 +1,6 @@
 -- What is promised of messages (document 02, Asks 1 and 3): which bytes are a message, when its MAC fits, and that reading and writing undo each other. This
 -- page has the statements; `ReadLaws`, `ReadCodesLaws`, `ItemsGivenLaws` and `RoundTripLaws` have the proofs.
-use Rattle.std.specs.Prelude.{ℕ, zero, suc, ◌-◌, ◌^◌, ◌<◌, ◌≡◌, true, false, List, [], ◌∷◌, ◌++◌, map, length, take, drop, slice_get, Option, Some, None, Result, Ok, Err}
+use Rattle.std.specs.Prelude.{ℕ, ◌-◌, ◌^◌, ◌<◌, ◌≡◌, true, false, List, [], ◌∷◌, ◌++◌, map, length, take, drop, slice_get, Option, Some, None, Result, Ok, Err}
 use Rattle.words.specs.Lists.{one_of}
 use Rattle.words.specs.Exactly.{Exactly}
 use Rattle.words.specs.Bytes.{AreBytes}

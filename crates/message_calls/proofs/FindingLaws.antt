@@ -1,12 +1,12 @@
 -- An item of a message by its identifier: how often it is there, and its content.
-use Rattle.std.specs.Prelude.{ℕ, suc, ◌≡◌, refl, Bool, true, false, List, [], ◌∷◌, eqb, length, Option, Some, None, is_some, unwrap_or, option_copied}
+use Rattle.std.specs.Prelude.{ℕ, suc, ◌≡◌, refl, List, [], ◌∷◌, eqb, length, Option, Some, None, is_some, unwrap_or, option_copied}
 use Rattle.std.proofs.Common.{sym, ap, ◌∙◌, arith, lt-ltb, eq-eqb, ne_eqb}
 use denote.Ref.{Bor}
 use Rattle.words.specs.Bytes.{be_at}
 use Rattle.words.specs.BoolLaws.{by-test}
 use Rattle.message.specs.Message.{Item, Message}
 use Rattle.message.specs.Reading.{content_in}
-use Rattle.message_calls.specs.Serving.{serial_item, count_of, content_of, serial_fits, serial_of}
+use Rattle.message_calls.specs.Serving.{serial_item, count_of, content_of}
 use Rattle.message_calls.specs.Finding.{has, serial_in}
 
 module _ (id : ℕ) where

@@ -3,7 +3,7 @@ use Rattle.std.specs.Prelude.{ℕ, suc, ◌+◌, ◌≤◌, ◌≡◌, refl, Boo
 use Rattle.std.proofs.Common.{sym, arith, eq-eqb, eqb-true, lt-ltb, ltb-true}
 use Rattle.std.proofs.lemmas.Bool.{not-true}
 use Rattle.words.specs.Lists.{one_of}
-use Rattle.words.specs.BoolLaws.{by-test, and_left, and_right, or_left, or_right, and_true}
+use Rattle.words.specs.BoolLaws.{by-test, and_left, and_right, or_left, or_right}
 use Rattle.message.specs.Message.{Item}
 use Rattle.std.specs.List.{list_all}
 use Rattle.message_calls.specs.declared.services.Service.{Service}

@@ -1,6 +1,6 @@
 -- What each branch of serving a message returns.
-use Rattle.std.specs.Prelude.{ℕ, ◌<◌, ◌≡◌, Bool, true, false, not, ◌&&◌, ◌||◌, List, eqb, Option, Some, None, is_some}
-use Rattle.std.proofs.Common.{sym, ap, ◌∙◌, arith}
+use Rattle.std.specs.Prelude.{ℕ, ◌<◌, ◌≡◌, Bool, true, false, not, ◌||◌, List, eqb, Option, Some, None}
+use Rattle.std.proofs.Common.{sym, ◌∙◌, arith}
 use borrow.Author.Tests.{eqb-true, not-true, not-false}
 use Rattle.words.specs.Lists.{one_of}
 use Rattle.words.specs.BoolLaws.{by-test, and_left, and_right, or_right, impossible}
@@ -13,7 +13,7 @@ use Rattle.message.specs.Message.{Message, is_reply, frame_of, frame_fits, messa
 use Rattle.message.specs.Walking.{framed_as}
 use Rattle.message.proofs.ReadingLaws.{not_framed, is-framed}
 use Rattle.message_calls.specs.declared.services.Service.{Service}
-use Rattle.message_calls.specs.Serving.{service_of, options_of, misfits, serial_fits, serial_of, only_these, items_of, call_of, call_for, message_reads}
+use Rattle.message_calls.specs.Serving.{service_of, options_of, misfits, serial_fits, serial_of, only_these, items_of, call_for, message_reads}
 use Rattle.message_calls.specs.Finding.{fits, serial_in}
 
 -- ---- what a call needs

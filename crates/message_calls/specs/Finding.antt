@@ -1,5 +1,5 @@
 -- How the code finds the items of a call.
-use Rattle.std.specs.Prelude.{ℕ, Bool, ◌&&◌, cond, List, eqb, ltb, length, Option, Some, None}
+use Rattle.std.specs.Prelude.{ℕ, Bool, ◌&&◌, cond, List, ltb, Option, Some, None}
 use Rattle.words.specs.Lists.{one_of}
 use Rattle.message.specs.Message.{Item, Message}
 use Rattle.message_calls.specs.declared.services.Service.{Service}

@@ -28,7 +28,10 @@ pub(crate) fn items_fit(framed: &Framed, service: Service) -> bool
     ensures { result ≡ only_these (items_of service) (message_at framed.now).items }
 {
     let wanted = items_of(service);
-    (framed.count() == wanted.len()) & wanted.iter().all(|id| has(framed, *id))
+    if framed.count() != wanted.len() {
+        return false;
+    }
+    wanted.iter().all(|id| has(framed, *id))
 }
 
 // The serial, where it has 8 bytes.

@@ -1,4 +1,3 @@
-use Rattle.std.proofs.Common.{sym, ◌∙◌}
 use Rattle.message.specs.FrameLaws.{frame_short, head-unfit, items-fit}
 use Rattle.message.proofs.frame.frame_fits.Goals as goal
 
