@@ -1,6 +1,6 @@
 -- The C functions give a code and store their result in a lent output.
 use Rattle.std.specs.Prelude.{ℕ, List, cond, eqb, Some, None}
-use Rattle.words.specs.Output.{Left, stored, answer_left}
+use Rattle.words.specs.Output.{Left, stored, answer_left, stored_answer}
 use Rattle.otp.specs.Password.{password_answer, Factor}
 use Rattle.otp.specs.declared.Factor.{Factor}
 use Rattle.otp.specs.declared.Factor.TheVariants.{Absent, Present}
@@ -12,7 +12,7 @@ abbrev pub left : ℕ → List ℕ → Left
 left code out = record { code = code; out = out }
 
 abbrev pub sm3_left : List ℕ → List ℕ → Left
-sm3_left message out = answer_left (sm3_answer message) out
+sm3_left message out = stored_answer (sm3_answer message) out
 
 abbrev pub sm4_left : List ℕ → List ℕ → List ℕ → Left
 sm4_left key block out = stored (sm4_answer key block).code (sm4_answer key block).block out

@@ -13,7 +13,7 @@ pub(crate) fn last_blocks(len: usize) -> usize
 }
 
 // Puts the last blocks into a buffer of zeros, which has room for two. Of a message of len bytes tail follows the whole blocks.
-pub(crate) fn put_tail(tail: &[u8], len: usize, blocks: usize, out: &mut [u8])
+pub(crate) fn put_tail(tail: &[u8], len: usize, blocks: usize, out: &mut [u8; 128])
     requires len_bound { len < 2 ^ 32 }
     requires tail_len { length tail.now ≡ len % 64 }
     requires blocks_value { blocks ≡ last_blocks len }
@@ -27,8 +27,7 @@ pub(crate) fn put_tail(tail: &[u8], len: usize, blocks: usize, out: &mut [u8])
 
 // Pads the message in the first len bytes of m, where it lies, and answers how many blocks it has then. Behind it m has zeros, and
 // the length has two bytes.
-pub fn pad(m: &mut [u8], len: usize) -> usize
-    requires m_len { length m.old ≡ 128 }
+pub fn pad(m: &mut [u8; 128], len: usize) -> usize
     requires len_bound { len < 120 }
     requires m_value { drop len m.old ≡ replicate (128 - len) 0 }
     ensures value { result ≡ len / 64 + last_blocks len }

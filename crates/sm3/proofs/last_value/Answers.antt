@@ -8,7 +8,7 @@ put_tail-requires c = record { len_bound = c.requires.len_bound; tail_len = tail
 
 pub iterate-requires-2 : goal.iterate-requires-2
 iterate-requires-2 c = let room = rw (← c.last_blocks-blocks.ensures) at (last_blocks_fit c.args.len) in
-    omega (arith, c.put_tail.auto.out)
+    omega arith
 
 pub returns : goal.returns
 returns c =

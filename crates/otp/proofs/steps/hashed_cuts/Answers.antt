@@ -1,9 +1,9 @@
-use Rattle.std.proofs.Common.{refl, arith, rules}
+use Rattle.std.proofs.Common.{refl, arith}
 use Rattle.otp.specs.StepLaws.{key-behind, key-shared, cuts_of}
 use Rattle.otp.proofs.steps.hashed_cuts.Goals as goal
 
 pub pad-requires : goal.pad-requires
-pad-requires c = record { m_len = search rules; len_bound = omega (arith, c.put_bytes-at.ensures.value); m_value = key-behind c.args.key.now c.requires.key_len_bound c.put_bytes-at.ensures.value c.put_bytes-at.ensures.out_after }
+pad-requires c = record { len_bound = omega (arith, c.put_bytes-at.ensures.value); m_value = key-behind c.args.key.now c.requires.key_len_bound c.put_bytes-at.ensures.value c.put_bytes-at.ensures.out_after }
 
 pub put_steps-requires : goal.put_steps-requires
 put_steps-requires c = record { at_bound = omega (arith, c.put_bytes-at.ensures.value, c.requires.key_len_bound); s_bound = c.requires.s_bound; n_bound = c.requires.n_bound }

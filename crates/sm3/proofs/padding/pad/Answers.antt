@@ -20,4 +20,4 @@ put_be-requires c =
 
 pub returns : goal.returns
 returns c = let e = ap (λ (n : ℕ). c.args.len / 64 + n) c.last_blocks.ensures in
-    record { value = e; m_after = padded_in_place c.args.m.now c.args.len (c.args.len / 64 + c.last_blocks.result) c.requires.m_len c.requires.len_bound c.requires.m_value e c.put_be.ensures }
+    record { value = e; m_after = padded_in_place c.args.m.now c.args.len (c.args.len / 64 + c.last_blocks.result) (omega arith) c.requires.len_bound c.requires.m_value e c.put_be.ensures }

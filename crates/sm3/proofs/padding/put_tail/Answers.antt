@@ -1,12 +1,6 @@
-use Rattle.std.proofs.Common.{length, ap, arith, length-set}
+use Rattle.std.proofs.Common.{arith, length-set}
 use Rattle.sm3.specs.PaddingLaws.{last_blocks_fit, last_blocks_fill, end_of}
 use Rattle.sm3.proofs.padding.put_tail.Goals as goal
-
-pub copy-requires : goal.copy-requires
-copy-requires c = let l = ap length c.requires.out_value in omega arith
-
-pub bounds-out-tail : goal.bounds-out-tail
-bounds-out-tail c = let l = ap length c.requires.out_value in omega (arith, c.copy.auto.out)
 
 pub overflow_mul-blocks : goal.overflow_mul-blocks
 overflow_mul-blocks c =
@@ -20,10 +14,9 @@ overflow_sub-blocks c =
 
 pub put_be-requires : goal.put_be-requires
 put_be-requires c =
-    let l = ap length c.requires.out_value in
     let room = rw (← c.requires.blocks_value) at (last_blocks_fit c.args.len) in
     let fill = rw (← c.requires.blocks_value) at (last_blocks_fill c.args.len) in
-    rw (length-set, c.copy.auto.out) (omega arith)
+    rw length-set (omega (arith, c.copy.auto.out))
 
 pub returns : goal.returns
 returns c =
