@@ -14,16 +14,14 @@ ghost use Rattle.capi.specs.Stored.{left, factor_of, password_left, sm3_left, sm
 use otp::{Factor, password};
 use sm3::sm3;
 use sm4::{encrypt, round_keys, sm4};
-use store::{store, store_words};
+use store::store;
 
 // SM3 of the message, into the first 32 bytes of out.
 #[unsafe(no_mangle)]
 pub extern "C" fn dl_sm3(message: &[u8], out: &mut [u8]) -> u16
     ensures { left result out.new ≡ sm3_left message.now out.old }
 {
-    let hash = sm3(message);
-    let digest = hash.digest;
-    store(hash.code, &digest, out)
+    store(sm3(message), out)
 }
 
 // SM4 of the block under the key, into the first 16 bytes of out.
@@ -31,9 +29,7 @@ pub extern "C" fn dl_sm3(message: &[u8], out: &mut [u8]) -> u16
 pub extern "C" fn dl_sm4(key: &[u8], block: &[u8], out: &mut [u8]) -> u16
     ensures { left result out.new ≡ sm4_left key.now block.now out.old }
 {
-    let cipher = sm4(key, block);
-    let made = cipher.block;
-    store(cipher.code, &made, out)
+    store(sm4(key, block), out)
 }
 
 // The 32 round keys of the key, into the first words of out.
@@ -41,9 +37,7 @@ pub extern "C" fn dl_sm4(key: &[u8], block: &[u8], out: &mut [u8]) -> u16
 pub extern "C" fn dl_sm4_keys(key: &[u8], out: &mut [u32]) -> u16
     ensures { left result out.new ≡ keys_left key.now out.old }
 {
-    let keys = round_keys(key);
-    let made = keys.words;
-    store_words(keys.code, &made, out)
+    store(round_keys(key), out)
 }
 
 // SM4 of the block under round keys, into the first 16 bytes of out.
@@ -51,9 +45,7 @@ pub extern "C" fn dl_sm4_keys(key: &[u8], out: &mut [u32]) -> u16
 pub extern "C" fn dl_sm4_encrypt(keys: &[u32], block: &[u8], out: &mut [u8]) -> u16
     ensures { left result out.new ≡ encrypt_left keys.now block.now out.old }
 {
-    let encrypted = encrypt(keys, block);
-    let made = encrypted.block;
-    store(encrypted.code, &made, out)
+    store(encrypt(keys, block), out)
 }
 
 // A factor with a flag beside its number: 0 says that it is absent.
