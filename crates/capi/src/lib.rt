@@ -14,18 +14,15 @@ ghost use Rattle.capi.specs.Stored.{left, factor_of, password_left, sm3_left, sm
 use otp::{Factor, password};
 use sm3::sm3;
 use sm4::{encrypt, round_keys, sm4};
-use store::{store, store_words};
-use words::codes::{BAD_ARGUMENT, DONE};
+use store::store;
+use words::codes::{BAD_ARGUMENT, BadArgument, DONE};
 
 // SM3 of the message, into the first 32 bytes of out.
 #[unsafe(no_mangle)]
 pub extern "C" fn dl_sm3(message: &[u8], out: &mut [u8]) -> u16
     ensures { left result out.new ≡ sm3_left message.now out.old }
 {
-    match sm3(message) {
-        Ok(digest) => store(DONE, &digest, out),
-        Err(_) => BAD_ARGUMENT,
-    }
+    store(sm3(message), out)
 }
 
 // SM4 of the block under the key, into the first 16 bytes of out.
@@ -33,9 +30,7 @@ pub extern "C" fn dl_sm3(message: &[u8], out: &mut [u8]) -> u16
 pub extern "C" fn dl_sm4(key: &[u8], block: &[u8], out: &mut [u8]) -> u16
     ensures { left result out.new ≡ sm4_left key.now block.now out.old }
 {
-    let cipher = sm4(key, block);
-    let made = cipher.block;
-    store(cipher.code, &made, out)
+    store(sm4(key, block), out)
 }
 
 // The 32 round keys of the key, into the first words of out.
@@ -43,9 +38,7 @@ pub extern "C" fn dl_sm4(key: &[u8], block: &[u8], out: &mut [u8]) -> u16
 pub extern "C" fn dl_sm4_keys(key: &[u8], out: &mut [u32]) -> u16
     ensures { left result out.new ≡ keys_left key.now out.old }
 {
-    let keys = round_keys(key);
-    let made = keys.words;
-    store_words(keys.code, &made, out)
+    store(round_keys(key), out)
 }
 
 // SM4 of the block under round keys, into the first 16 bytes of out.
@@ -53,9 +46,7 @@ pub extern "C" fn dl_sm4_keys(key: &[u8], out: &mut [u32]) -> u16
 pub extern "C" fn dl_sm4_encrypt(keys: &[u32], block: &[u8], out: &mut [u8]) -> u16
     ensures { left result out.new ≡ encrypt_left keys.now block.now out.old }
 {
-    let encrypted = encrypt(keys, block);
-    let made = encrypted.block;
-    store(encrypted.code, &made, out)
+    store(encrypt(keys, block), out)
 }
 
 // A factor with a flag beside its number: 0 says that it is absent.

@@ -1,33 +1,22 @@
 // A result stored in a lent output: bytes or words.
 ghost use Rattle.std.specs.Prelude.{◌≡◌};
-ghost use Rattle.words.specs.Output.{stored};
-ghost use Rattle.capi.specs.Stored.{left};
+ghost use Rattle.capi.specs.Stored.{code_left, out_left};
 
 use words::bytes::copy;
-use words::codes::{BAD_ARGUMENT, DONE};
+use words::codes::{BAD_ARGUMENT, BadArgument, DONE};
 
-pub(crate) fn store(code: u16, res: &[u8], out: &mut [u8]) -> u16
-    ensures { left result out.new ≡ stored code res.now out.old }
+pub(crate) fn store<T: Copy, const N: usize>(
+    made: Result<[T; N], BadArgument>,
+    out: &mut [T],
+) -> u16
+    ensures code { result ≡ code_left made out.old }
+    ensures out_after { out.new ≡ out_left made out.old }
 {
-    if code != DONE {
-        return BAD_ARGUMENT;
+    match made {
+        Ok(parts) if N <= out.len() => {
+            copy(&parts, out);
+            DONE
+        }
+        _ => BAD_ARGUMENT,
     }
-    if out.len() < res.len() {
-        return BAD_ARGUMENT;
-    }
-    copy(res, out);
-    DONE
-}
-
-pub(crate) fn store_words(code: u16, res: &[u32], out: &mut [u32]) -> u16
-    ensures { left result out.new ≡ stored code res.now out.old }
-{
-    if code != DONE {
-        return BAD_ARGUMENT;
-    }
-    if out.len() < res.len() {
-        return BAD_ARGUMENT;
-    }
-    copy(res, out);
-    DONE
 }

@@ -22,16 +22,26 @@ fn id_number(timed: bool, s: u64) -> u64
     }
 }
 
-// The number in lane l of the n steps from s on.
-fn lane_number(timed: bool, s: u64, n: usize, l: usize) -> u64
-    requires s_bound { s < 2 ^ 63 }
-    requires n_bound { n ≤ 4 }
-    ensures { result ≡ lane_number timed s n l }
-{
-    if n <= l {
-        return IDLE;
+// The steps that are hashed: so many from the first on.
+#[derive(Clone, Copy)]
+struct Steps {
+    timed: bool,
+    first: u64,
+    count: usize,
+    ghost first_bound: { first < 2 ^ 63 },
+    ghost count_bound: { count ≤ 4 },
+}
+
+impl Steps {
+    // The number in lane l.
+    fn number(self, l: usize) -> u64
+        ensures { result ≡ lane_number self.timed self.first self.count l }
+    {
+        if self.count <= l {
+            return IDLE;
+        }
+        id_number(self.timed, self.first + l as u64)
     }
-    id_number(timed, s + l as u64)
 }
 
 // Word i of the three over which the eight bytes of n reach, if they begin `bits` behind the beginning of the first.
@@ -49,40 +59,34 @@ fn span_word(n: u64, bits: u32, i: usize) -> u32
 }
 
 // Word i of the number in lane l, which begins at byte at.
-fn lane_word(at: usize, timed: bool, s: u64, n: usize, i: usize, l: usize) -> u32
-    requires s_bound { s < 2 ^ 63 }
-    requires n_bound { n ≤ 4 }
-    ensures { result ≡ lane_word at timed s n i l }
+fn lane_word(at: usize, steps: Steps, i: usize, l: usize) -> u32
+    ensures { result ≡ lane_word at steps.timed steps.first steps.count i l }
 {
     let bits = 8 * (at % 4) as u32;
-    span_word(lane_number(timed, s, n, l), bits, i)
+    span_word(steps.number(l), bits, i)
 }
 
 // Puts word i of the lanes' numbers, which begin at byte at, each into its message.
-fn put_word(w: &mut [u32; 272], at: usize, timed: bool, s: u64, n: usize, i: usize)
+fn put_word(w: &mut [u32; 272], at: usize, steps: Steps, i: usize)
     requires at_bound { at ≤ 32 }
-    requires s_bound { s < 2 ^ 63 }
-    requires n_bound { n ≤ 4 }
     requires i_bound { i < 3 }
-    ensures { WordPut at timed s n i w.old w.new }
+    ensures { WordPut at steps.timed steps.first steps.count i w.old w.new }
 {
-    let a = lane_word(at, timed, s, n, i, 0);
-    let b = lane_word(at, timed, s, n, i, 1);
-    let c = lane_word(at, timed, s, n, i, 2);
-    let d = lane_word(at, timed, s, n, i, 3);
+    let a = lane_word(at, steps, i, 0);
+    let b = lane_word(at, steps, i, 1);
+    let c = lane_word(at, steps, i, 2);
+    let d = lane_word(at, steps, i, 3);
     put_four(w, at / 4 + i, a, b, c, d);
 }
 
 // Puts the lanes' numbers from byte at on, each into its message.
-fn put_steps(w: &mut [u32; 272], at: usize, timed: bool, s: u64, n: usize)
-    requires at_bound { at ≤ 32 }
-    requires s_bound { s < 2 ^ 63 }
-    requires n_bound { n ≤ 4 }
-    ensures { StepsPut at timed s n w.old w.new }
+fn put_steps(w: &mut [u32; 272], at: usize, steps: Steps)
+    requires { at ≤ 32 }
+    ensures { StepsPut at steps.timed steps.first steps.count w.old w.new }
 {
-    put_word(w, at, timed, s, n, 0);
-    put_word(w, at, timed, s, n, 1);
-    put_word(w, at, timed, s, n, 2);
+    put_word(w, at, steps, 0);
+    put_word(w, at, steps, 1);
+    put_word(w, at, steps, 2);
 }
 
 // The cuts of the n steps from s on, in front of those of the idle lanes. Key and padding are laid once.
@@ -92,11 +96,16 @@ pub(crate) fn hashed_cuts(key: &[u8], timed: bool, s: u64, n: usize) -> [u32; 4]
     requires n_bound { n ≤ 4 }
     ensures { take n result ≡ cuts_from (hashed_cut key.now timed) n s }
 {
+    let steps = Steps {
+        timed,
+        first: s,
+        count: n,
+    };
     let mut m = [0u8; 128];
     let at = put_bytes(&mut m, 0, key);
     pad(&mut m, at + 16);
     let mut w = [0u32; 272];
-    put_steps(&mut w, at, timed, s, n);
+    put_steps(&mut w, at, steps);
     add_block(&mut w, &m);
     four_sums(&mut w)
 }

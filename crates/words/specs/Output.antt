@@ -16,6 +16,6 @@ stored code result out =
     (record { code = bad_argument; out = out })
 
 -- the same of a function that gives its result or refuses
-unfoldable pub stored_answer : Result (List ℕ) BadArgument → List ℕ → Left
-stored_answer (Ok result) out = stored done result out
-stored_answer (Err refusal) out = record { code = bad_argument; out = out }
+unfoldable pub answer_left : Result (List ℕ) BadArgument → List ℕ → Left
+answer_left (Ok result) out = stored done result out
+answer_left (Err refusal) out = record { code = bad_argument; out = out }
