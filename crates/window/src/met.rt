@@ -30,19 +30,18 @@ pub(crate) fn met_by(met: Met, hit: bool, fresh: bool, last: bool, i: u64) -> Me
     if !hit {
         return met;
     }
-    if !fresh {
-        return Met {
+    if fresh {
+        Met {
+            fresh: met.fresh + 1,
+            at: i,
+            ..met
+        }
+    } else {
+        Met {
             used: true,
             again: met.again | last,
-            fresh: met.fresh,
-            at: met.at,
-        };
-    }
-    Met {
-        used: met.used,
-        again: met.again,
-        fresh: met.fresh + 1,
-        at: i,
+            ..met
+        }
     }
 }
 

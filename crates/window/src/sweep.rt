@@ -36,7 +36,8 @@ fn sure_cuts(goal: Goal, all: u64, used: u64) -> u64
 }
 
 // Place i is the candidate first + i; a pair that hits there is accepted at the place `ahead` of it, and ends the sweep. `made` counts the cuts that are made:
-// first those that every sweep makes, then, for a pair, those that it is certain to reach.
+// first those that every sweep makes, then, for a pair, those that it is certain to reach. Track and clock are no struct with `Sound` in it: `check` has to
+// ask for it in any case, and only `candidates` asks for it too.
 pub(crate) fn sweep(
     track: Track,
     clock: Seconds,

@@ -8,10 +8,10 @@ pub loop-at-init : goal.loop-at-init
 loop-at-init c = (search rules, refl)
 
 pub loop-at-preserved : goal.loop-at-preserved
-loop-at-preserved c = (search rules, first_fails _ _ _ c.requires.width_ok.long _ _ refl c.if-table-at.false (sym c.passes.ensures ∙ c.if-passes.false) ∙ c.loop-at.invariant.1)
+loop-at-preserved c = (search rules, first_fails _ _ _ c.requires.width_ok.long _ _ refl c.loop-at-test.true (sym c.passes.ensures ∙ c.if-passes.false) ∙ c.loop-at.invariant.1)
 
-pub returns-then-table-at : goal.returns-then-table-at
-returns-then-table-at c = none_left _ _ _ c.requires.width_ok.long _ c.if-table-at.true ∙ c.loop-at.invariant.1
+pub returns : goal.returns
+returns c = none_left _ _ _ c.requires.width_ok.long _ c.loop-at-test.false ∙ c.loop-at.invariant.1
 
 pub returns-then-passes : goal.returns-then-passes
-returns-then-passes c = first_passes _ _ _ c.requires.width_ok.long _ c.if-table-at.false (sym c.passes.ensures ∙ c.if-passes.true) ∙ c.loop-at.invariant.1
+returns-then-passes c = first_passes _ _ _ c.requires.width_ok.long _ c.loop-at-test.true (sym c.passes.ensures ∙ c.if-passes.true) ∙ c.loop-at.invariant.1
