@@ -1,16 +1,17 @@
 -- How the code reads a message: whether it is one, and a walk over its items.
 use Rattle.std.specs.Prelude.{ℕ, ◌≤◌, ◌≡◌, true, Bool, ◌&&◌, cond, List, eqb, length, Option, Some, None, Result, Ok, Err}
 use Rattle.token.specs.declared.answers.Refusal.{Refusal}
-use Rattle.message.specs.Message.{items_end, all_plain, frame_fits, mac_fits}
+use Rattle.message.specs.Message.{items_end, all_plain, body_start, frame_fits, mac_fits}
 
 -- the most bytes that a message has: a header of 25, and a body of 2^16 - 1
 abbrev pub longest : ℕ
 longest = 65560
 
--- bytes that are a message, and not longer than one
-pub record Whole (s : List ℕ) : Type 0 where
+-- bytes that are a message, and not longer than one; and where its body starts
+pub record Whole (s : List ℕ) (body : ℕ) : Type 0 where
   pub fits : frame_fits s ≡ true
   pub short : length s ≤ longest
+  pub start : body ≡ body_start s
 
 -- the bytes, where they are a message
 unfoldable pub framed_as : List ℕ → Option (List ℕ)

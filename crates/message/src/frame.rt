@@ -104,6 +104,8 @@ fn frame_fits(message: &[u8]) -> bool
 #[derive(Drop)]
 pub struct Framed<'a> {
     pub(crate) message: &'a [u8],
+    // Where the body starts.
+    body: usize,
 }
 
 impl<'a> Model for Framed<'a> {
@@ -115,7 +117,7 @@ impl<'a> Model for Framed<'a> {
 
     ghost view = { λ framed. framed.message.now };
 
-    ghost invariant = { λ framed. Whole framed.message.now };
+    ghost invariant = { λ framed. Whole framed.message.now framed.body };
 }
 
 // The message that the bytes are.
@@ -125,7 +127,8 @@ pub fn frame_of(message: &[u8]) -> Option<Framed<'_>>
     if !frame_fits(message) {
         return None;
     }
-    Some(Framed { message })
+    let body = head_length(message[KIND]);
+    Some(Framed { message, body })
 }
 
 impl<'a> Framed<'a> {
@@ -142,11 +145,10 @@ impl<'a> Framed<'a> {
         mac_fits(self.message)
     }
 
-    // Where the body starts.
     pub(crate) fn body(&self) -> usize
         ensures value { result ≡ body_start self.now }
         ensures room { result + 5 ≤ length self.now }
     {
-        head_length(self.message[KIND])
+        self.body
     }
 }

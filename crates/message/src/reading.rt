@@ -27,16 +27,27 @@ pub struct Reading {
 }
 
 impl<'a> Framed<'a> {
+    pub fn service(&self) -> u32
+        ensures { result ≡ (message_at self.now).service }
+    {
+        be_at(self.message, self.body(), 2) as u32
+    }
+
+    pub fn options(&self) -> u32
+        ensures { result ≡ (message_at self.now).options }
+    {
+        be_at(self.message, self.body() + 2, 2) as u32
+    }
+
     pub fn heading(&self) -> Heading
         ensures { result ≡ heading_of (message_at self.now) }
     {
-        let body = self.body();
         Heading {
             kind: self.message[KIND] as u32,
             caller: be_eight(self.message, CALLER),
             number: be_eight(self.message, NUMBER),
-            service: be_at(self.message, body, 2) as u32,
-            options: be_at(self.message, body + 2, 2) as u32,
+            service: self.service(),
+            options: self.options(),
         }
     }
 }

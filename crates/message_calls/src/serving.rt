@@ -18,7 +18,7 @@ use window::Seconds;
 fn fits(framed: &Framed, service: Service) -> bool
     ensures { result ≡ fits service (message_at framed.now) }
 {
-    options_fit(service, framed.heading().options)
+    options_fit(service, framed.options())
         & items_fit(framed, service)
         & serial_of(framed).is_some()
 }
@@ -27,7 +27,7 @@ fn fits(framed: &Framed, service: Service) -> bool
 fn misfits(framed: &Framed) -> bool
     ensures { result ≡ misfits (message_at framed.now) }
 {
-    let Some(service) = service_of(framed.heading().service) else {
+    let Some(service) = service_of(framed.service()) else {
         return false;
     };
     !fits(framed, service)
@@ -40,9 +40,8 @@ fn serve_call(table: &mut [u8], framed: &Framed, service: Service, clock: Second
     ensures { result_of result table.new ≡ read_after password_at (call_for (Some service) (message_at framed.now) clock.0) table.old }
 {
     let serial = serial_of(framed).unwrap();
-    let password = content(framed, PASSWORD);
     match service {
-        Service::Login => login(table, serial, clock, password),
+        Service::Login => login(table, serial, clock, content(framed, PASSWORD)),
         Service::ChallengeLogin => challenge_login(
             table,
             serial,
@@ -50,17 +49,23 @@ fn serve_call(table: &mut [u8], framed: &Framed, service: Service, clock: Second
             content(framed, CHALLENGE),
             content(framed, RESPONSE),
         ),
-        Service::Activate => activate(table, serial, clock, password, content(framed, FOLLOWING)),
+        Service::Activate => activate(
+            table,
+            serial,
+            clock,
+            content(framed, PASSWORD),
+            content(framed, FOLLOWING),
+        ),
         Service::Lock => lock(table, serial, clock),
-        Service::Unlock => unlock(table, serial, clock, password),
+        Service::Unlock => unlock(table, serial, clock, content(framed, PASSWORD)),
         Service::Suspend => suspend(table, serial, clock),
-        Service::Resume => resume(table, serial, clock, password),
+        Service::Resume => resume(table, serial, clock, content(framed, PASSWORD)),
         Service::Sync => sync(
             table,
             serial,
             clock,
-            framed.heading().options as u8,
-            password,
+            framed.options() as u8,
+            content(framed, PASSWORD),
             content(framed, FOLLOWING),
         ),
         Service::Void => void(table, serial, clock),
@@ -79,6 +84,6 @@ pub fn serve_message(table: &mut [u8], message: &[u8], clock: Seconds) -> Answer
     if !framed.mac_fits() {
         return Err(Refusal::BadMac);
     }
-    let service = service_of(framed.heading().service).ok_or(Refusal::NoService)?;
+    let service = service_of(framed.service()).ok_or(Refusal::NoService)?;
     serve_call(table, &framed, service, clock)
 }

@@ -1,4 +1,6 @@
+use Rattle.std.proofs.Common.{◌≡◌, true, sym, ◌∙◌, arith}
 use Rattle.message.specs.Walking.{framed_as}
+use Rattle.message.specs.FrameLaws.{fits-long}
 use Rattle.message.proofs.frame.frame_of.Goals as goal
 
 pub returns-then-not-frame_fits : goal.returns-then-not-frame_fits
@@ -8,3 +10,6 @@ returns-then-not-frame_fits c = rw (← c.frame_fits.ensures.value, c.if-not-fra
 pub returns : goal.returns
 unfolding framed_as
 returns c = rw (← c.frame_fits.ensures.value, c.if-not-frame_fits.false)
+
+pub bounds-message-1 : goal.bounds-message-1
+bounds-message-1 c = let long = fits-long _ (sym c.frame_fits.ensures.value ∙ c.if-not-frame_fits.false) in omega arith

@@ -24,10 +24,10 @@ returns-in_err-service c =
     let whole : c.frame_of.result ≡ Some c.in_ok-framed.framed = grind arith in
     let none : c.service_of.result ≡ None = grind arith in
     let answer : c.from_residual-in_err-service.result ≡ Err Refusal.NoService = grind arith in
-    rw answer (no-call _ c.frame_of.ensures _ _ _ whole c.is_reply.ensures c.misfits.ensures c.if-is_reply-misfits.false c.mac_fits.ensures c.if-not-mac_fits.false-raw (rw c.heading.ensures at c.service_of.ensures) none)
+    rw answer (no-call _ c.frame_of.ensures _ _ _ whole c.is_reply.ensures c.misfits.ensures c.if-is_reply-misfits.false c.mac_fits.ensures c.if-not-mac_fits.false-raw (rw c.service.ensures at c.service_of.ensures) none)
 
 pub returns : goal.returns
 returns c =
     let whole : c.frame_of.result ≡ Some c.in_ok-framed.framed = grind arith in
     let some : c.service_of.result ≡ Some c.in_ok-service.service = grind arith in
-    message-served _ c.frame_of.ensures _ _ _ whole c.is_reply.ensures c.misfits.ensures c.if-is_reply-misfits.false c.mac_fits.ensures c.if-not-mac_fits.false-raw (rw c.heading.ensures at c.service_of.ensures) some c.serve_call.ensures
+    message-served _ c.frame_of.ensures _ _ _ whole c.is_reply.ensures c.misfits.ensures c.if-is_reply-misfits.false c.mac_fits.ensures c.if-not-mac_fits.false-raw (rw c.service.ensures at c.service_of.ensures) some c.serve_call.ensures
