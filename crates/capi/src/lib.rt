@@ -53,7 +53,10 @@ pub extern "C" fn dl_sm4_encrypt(keys: &[u32], block: &[u8], out: &mut [u8]) -> 
 fn factor(flag: u8, number: u64) -> Factor
     ensures { result ≡ factor_of flag number }
 {
-    (flag != 0).then_some(number)
+    if flag == 0 {
+        return None;
+    }
+    Some(number)
 }
 
 // The password of the given factors, into the first `digits` bytes of out.

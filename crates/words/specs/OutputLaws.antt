@@ -3,7 +3,7 @@ use Rattle.std.specs.Prelude.{ℕ, Result, Ok, Err, ◌≤◌, ◌<◌, ◌≡�
 use borrow.Author.Tests.{eq-eqb, ne_eqb, le-leb, lt-leb}
 use Rattle.words.specs.Codes.{done, bad_argument}
 use Rattle.words.specs.declared.codes.BadArgument.{BadArgument}
-use Rattle.words.specs.Output.{Left, stored, stored_answer}
+use Rattle.words.specs.Output.{Left, stored, answer_left}
 
 module _ (code : ℕ) (result out : List ℕ) where
   pub stored-refusal : (code ≡ done → ⊥) → (bad_argument ≡ (stored code result out).code) × (out ≡ (stored code result out).out)
@@ -22,10 +22,10 @@ module _ (code : ℕ) (result out : List ℕ) where
 
 -- an answer that is a result, and one that is a refusal
 module _ {answer : Result (List ℕ) BadArgument} (out : List ℕ) where
-  pub answer-given : {result : List ℕ} → answer ≡ Ok result → stored done result out ≡ stored_answer answer out
-  unfolding stored_answer
-  answer-given e = rw e
+  pub left-given : {result : List ℕ} → answer ≡ Ok result → stored done result out ≡ answer_left answer out
+  unfolding answer_left
+  left-given e = rw e
 
-  pub answer-refused : {refusal : BadArgument} → answer ≡ Err refusal → ◌≡◌ {A = Left} (record { code = bad_argument; out = out }) (stored_answer answer out)
-  unfolding stored_answer
-  answer-refused e = rw e
+  pub left-refused : {refusal : BadArgument} → answer ≡ Err refusal → ◌≡◌ {A = Left} (record { code = bad_argument; out = out }) (answer_left answer out)
+  unfolding answer_left
+  left-refused e = rw e

@@ -29,4 +29,4 @@ returns c =
     let computed = computed-room _ _ _ _ _ c.args.step.now c.args.computed.now c.args.fresh.now c.numbers_ok-ok.ensures c.if-not-ok-room.false-raw in
     let fresh = fresh-room _ _ _ _ _ c.args.step.now c.args.computed.now c.args.fresh.now c.numbers_ok-ok.ensures c.if-not-ok-room.false-raw in
     all-written c.args.step.now c.args.computed.now c.args.fresh.now c.check-swept.result computed fresh c.put_outcome.ensures
-    ∙ check_made _ _ _ _ _ _ _ _ c.numbers_ok-ok.ensures c.if-not-ok-room.false-raw _ _ c.size_of.ensures c.presented_of.ensures c.in-Is.is c.check-swept.ensures.outcome_value c.check-swept.ensures.computed_value c.check-swept.ensures.fresh_value
+    ∙ check_made _ _ _ _ _ _ _ _ c.numbers_ok-ok.ensures c.if-not-ok-room.false-raw _ _ c.size_of.ensures c.presented_of.ensures c.in-Some.is c.check-swept.ensures.outcome_value c.check-swept.ensures.computed_value c.check-swept.ensures.fresh_value
