@@ -5,7 +5,7 @@ use Rattle.std.proofs.Math.Option.{none, some}
 use native.Mathlib.Omega.{arith}
 use borrow.Author.Tests.{eq-eqb, ne_eqb, le-leb, lt-leb, leb-true, not-true, not-false}
 use Rattle.std.proofs.lemmas.List.{length-map}
-use Rattle.std.proofs.Math.Seq.{append_snoc, take-length}
+use Rattle.std.proofs.Math.Seq.{append_snoc}
 use Rattle.words.specs.ListsLaws.{drop-replicate}
 use Rattle.words.specs.BoolLaws.{and_left, and_right, and_true, and_false, and_assoc, by-test}
 use Rattle.text.specs.Text.{digit_value, decoded, decoded_of, hex_left, put_front, hex_into}
