@@ -46,7 +46,7 @@ pub fn start() -> Registers
     }
 }
 
-// The registers in bytes (5.4).
+// The registers in bytes (5.4). Written out, since a loop would have to name the eight registers too.
 pub(crate) fn digest(r: Registers) -> [u8; 32]
     ensures { result ≡ digest r }
 {

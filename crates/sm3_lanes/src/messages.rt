@@ -46,7 +46,7 @@ pub(crate) fn grow_four<const GROWS: bool>(w: &mut [u32; 272], k: usize, l: usiz
     grow(w, j + 3, l);
 }
 
-// Puts word j of each message.
+// Puts word j of each message. The four words are parameters, since the caller has them in no array.
 pub fn put_four(w: &mut [u32; 272], j: usize, a: u32, b: u32, c: u32, d: u32)
     requires { j < 68 }
     ensures { Across j (among a b c d) w.old w.new }

@@ -7,7 +7,7 @@ ghost use Rattle.sm3_lanes.specs.Lanes.{value_at, Put, Starts};
 use sm3::Registers;
 use sm3::compress::{word_sum, xored};
 
-// The value of message l.
+// The value of message l. Here and below each register is named once, as a loop over a list of them would name it too.
 pub(crate) fn value_at(s: &[u32; 32], l: usize) -> Registers
     requires { l < 4 }
     ensures { result ≡ value_at l s.now }
