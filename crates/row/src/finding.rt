@@ -10,6 +10,7 @@ use crate::states::EMPTY;
 use words::bytes::{le_eight, swapped};
 
 // What a row is looked for by: a serial, its bytes in the other order so that a row's are compared as they stand, or that it is empty.
+// No closure, since the clause of `first_of` would then need the test that it stands for, which `passes` of the enum is.
 #[derive(Clone, Copy)]
 enum Wanted {
     Serial(u64),
