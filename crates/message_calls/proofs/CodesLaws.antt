@@ -77,6 +77,7 @@ module _ (s : List ℕ) where
 
   module _ (clock : ℕ) (ok : Malformed s → ⊥) (fits : mac_fits s ≡ true) where
     call_why : (service : Option Service) → service_of (message_at s).service ≡ service → Why s (call_for service (message_at s) clock)
+    unfolding call_for
     call_why None e = Why.no_call ok fits (rw e)
     call_why (Some service) e = Why.called ok fits (rw e) (call_of service (message_at s) clock)
 

@@ -87,7 +87,7 @@ module _ (s : List ℕ) {x : Option (List ℕ)} (framed : x ≡ framed_as s) (pa
           same_service = rw here.1 at (sym named)
 
           pub no-call : o ≡ None → refused Refusal.NoService t ≡ read_after passwords (message_reads s clock) t
-          unfolding message_reads frame_of read_after
+          unfolding message_reads frame_of read_after call_for
           no-call e = let none : service_of (message_at s).service ≡ None = same_service ∙ e in rw (here.0, right, sealed, none)
 
           pub message-served : {service : Service} {r : Result} → o ≡ Some service → r ≡ read_after passwords (call_for (Some service) (message_at f) clock) t → r ≡ read_after passwords (message_reads s clock) t

@@ -115,7 +115,7 @@ abbrev pub serial_of : Message → ℕ
 serial_of m = be_at 8 (content_of serial_item m.items) 0
 
 -- at a clock reading of whoever runs the reader
-unfoldable pub call_of : Service → Message → ℕ → DeskCall
+abbrev pub call_of : Service → Message → ℕ → DeskCall
 call_of Service.Login m clock = login_call (content_of password_item m.items) (serial_of m) clock
 call_of Service.ChallengeLogin m clock =
     challenge_call (content_of challenge_item m.items) (content_of response_item m.items) (serial_of m) clock
@@ -131,7 +131,7 @@ call_of Service.Void m clock = void_call (serial_of m) clock
 call_of Service.Query m clock = query_call (serial_of m) clock
 
 -- a service without a call is 9004
-abbrev pub call_for : Option Service → Message → ℕ → Reads
+unfoldable pub call_for : Option Service → Message → ℕ → Reads
 call_for None m clock = Reads.refuses Refusal.NoService
 call_for (Some service) m clock = Reads.serves (call_of service m clock)
 
