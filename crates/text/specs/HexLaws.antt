@@ -1,18 +1,15 @@
 -- What the functions on hexadecimal bytes return, over what the functions that they call ensure.
-use Rattle.std.specs.Prelude.{◌≡◌, ℕ, zero, suc, ◌+◌, ◌-◌, ◌*◌, ◌/◌, ◌%◌, ◌<◌, ◌≤◌, Bool, true, false, cond, not, ◌&&◌, List, [], ◌∷◌, ◌++◌, map, length, take, drop, replicate, ◌==◌, ◌≢◌, nat_le, nat_lt, slice_index, slice_set, refl}
+use Rattle.std.specs.Prelude.{◌≡◌, ℕ, zero, suc, ◌+◌, ◌-◌, ◌*◌, ◌/◌, ◌%◌, ◌<◌, ◌≤◌, Bool, true, false, cond, not, ◌&&◌, List, [], ◌∷◌, ◌++◌, map, length, take, drop, replicate, ◌==◌, ◌≢◌, nat_le, nat_lt, slice_index, slice_set, Some, None, refl}
 use Rattle.std.proofs.Common.{sym, ◌∙◌, append-nil, add-one, drop_of_length-le, length-set, length-drop, take-append-drop, drop-cons, drop-drop, drop-set-lt, take-suc-set, take_all}
-use Rattle.std.proofs.Math.Option.{none, some}
 use native.Mathlib.Omega.{arith}
 use borrow.Author.Tests.{eq-eqb, ne_eqb, le-leb, lt-leb, leb-true, not-true, not-false}
 use Rattle.std.proofs.lemmas.List.{length-map}
-use Rattle.std.proofs.Math.Seq.{append_snoc, take-length}
+use Rattle.std.proofs.Math.Seq.{append_snoc, take-length, take-append_seam, drop-append_seam}
 use Rattle.words.specs.ListsLaws.{drop-replicate}
 use Rattle.words.specs.BoolLaws.{and_left, and_right, and_true, and_false, and_assoc, by-test}
 use Rattle.text.specs.Text.{digit_value, decoded, decoded_of, hex_left, put_front, hex_into}
 use Rattle.text.specs.Steps.{all_hex, pairs_of}
 use Rattle.text.specs.TextLaws.{hex_is, length_pairs}
-use Rattle.text.specs.declared.hexadecimal.Decoded.{Decoded}
-use Rattle.text.specs.declared.hexadecimal.HexRead.{HexRead}
 
 pub digits-padded : (s : List ℕ) {digits : List ℕ} → digits ≡ take (length s) s ++ drop (length s) (replicate 64 0x30)
     → digits ≡ s ++ replicate (64 - length s) 0x30
@@ -69,12 +66,12 @@ padded_pairs (h ∷ []) k e = absurd (omega arith)
 padded_pairs (h ∷ l ∷ s) k e = rw (padded_pairs s k (omega arith))
 
 module _ (s : List ℕ) where
-  pub hex_odd : (length s % 2 ≢ 0) → decoded none ≡ decoded_of s
+  pub hex_odd : (length s % 2 ≢ 0) → None ≡ decoded_of s
   unfolding decoded
   hex_odd n = rw (hex_is s, ne_eqb (length s % 2) 0 n)
 
   module _ (even : length s % 2 ≡ 0) where
-    pub hex_long : 64 < length s → decoded none ≡ decoded_of s
+    pub hex_long : 64 < length s → None ≡ decoded_of s
     unfolding decoded
     hex_long l =
         by-test (all_hex (map digit_value s))
@@ -86,17 +83,26 @@ module _ (s : List ℕ) where
       tested-digits : right ≡ all_hex (map digit_value s)
       tested-digits = tested ∙ rw (valued, pad) (padded-all s (64 - length s))
 
-      pub hex_wrong : not right ≡ true → decoded none ≡ decoded_of s
+      pub hex_wrong : not right ≡ true → None ≡ decoded_of s
       unfolding decoded
       hex_wrong t = rw (hex_is s, eq-eqb (length s % 2) 0 even, ← tested-digits, not-true right t)
 
-      pub hex_done : {bytes : List ℕ} → not right ≡ false → bytes ≡ pairs_of values
-          → ◌≡◌ {A = Decoded} (record { ok = true; len = length s / 2; bytes = bytes }) (decoded_of s)
-      unfolding decoded
-      hex_done t e =
-          let m : 64 - length s ≡ 2 * (32 - length s / 2) = omega arith in
-          let h : length s / 2 ≤ 32 = omega arith in
-          rw (hex_is s, eq-eqb (length s % 2) 0 even, ← tested-digits, not-false right t, length_pairs s, le-leb (length s / 2) 32 h, e, valued, pad, m, padded_pairs s (32 - length s / 2) even)
+      module _ {bytes : List ℕ} (true-digits : not right ≡ false) (paired : bytes ≡ pairs_of values) where
+        -- the bytes, and zeros behind them
+        padded-bytes : bytes ≡ pairs_of (map digit_value s) ++ replicate (32 - length s / 2) 0
+        padded-bytes =
+            let m : 64 - length s ≡ 2 * (32 - length s / 2) = omega arith in
+            rw (paired, valued, pad, m) (padded_pairs s (32 - length s / 2) even)
+
+        pub hex-zeros : drop (length s / 2) bytes ≡ replicate (32 - length s / 2) 0
+        hex-zeros = rw (padded-bytes, ← length_pairs s) (drop-append_seam (pairs_of (map digit_value s)) _)
+
+        pub hex_done : Some (take (length s / 2) bytes) ≡ decoded_of s
+        unfolding decoded
+        hex_done =
+            let h : length s / 2 ≤ 32 = omega arith in
+            let front : take (length s / 2) bytes ≡ pairs_of (map digit_value s) = rw (padded-bytes, ← length_pairs s) (take-append_seam (pairs_of (map digit_value s)) _) in
+            rw (front, hex_is s, eq-eqb (length s % 2) 0 even, ← tested-digits, not-false right true-digits, length_pairs s, le-leb (length s / 2) 32 h)
 
 -- ---- any count of bytes
 
@@ -158,8 +164,8 @@ module _ (s out₀ : List ℕ) (room : length s / 2 ≤ length out₀) where
         rw (← putting.front, pairs_none (drop (2 * i) (map digit_value s)) one, append-nil (take i out), ← e, ← putting.rest) (sym (take-append-drop i out))
 
 put_tests : (even right : Bool) (bytes out : List ℕ)
-    → put_front (cond (even && right) (some bytes) none) out
-    ≡ cond ((even && nat_le (length bytes) (length out)) && right) (hex_left (HexRead.Bytes (length bytes)) (bytes ++ drop (length bytes) out)) (hex_left HexRead.Bad out)
+    → put_front (cond (even && right) (Some bytes) None) out
+    ≡ cond ((even && nat_le (length bytes) (length out)) && right) (hex_left (Some (length bytes)) (bytes ++ drop (length bytes) out)) (hex_left None out)
 unfolding put_front
 put_tests true true bytes out = rw (and_true (nat_le (length bytes) (length out)))
 put_tests true false bytes out = rw (and_false (nat_le (length bytes) (length out)))
@@ -170,16 +176,16 @@ module _ (s out : List ℕ) {right : Bool} (tested : right ≡ all_hex (map digi
   fits = (length s % 2 == 0 && nat_le (length s / 2) (length out)) && right
 
   into_is : hex_into s out
-      ≡ cond fits (hex_left (HexRead.Bytes (length s / 2)) (pairs_of (map digit_value s) ++ drop (length s / 2) out)) (hex_left HexRead.Bad out)
+      ≡ cond fits (hex_left (Some (length s / 2)) (pairs_of (map digit_value s) ++ drop (length s / 2) out)) (hex_left None out)
   into_is =
       rw (hex_is s, ← tested) (rw (length_pairs s) at (put_tests (length s % 2 == 0) right (pairs_of (map digit_value s)) out))
 
-  pub into_wrong : not fits ≡ true → hex_left HexRead.Bad out ≡ hex_into s out
+  pub into_wrong : not fits ≡ true → hex_left None out ≡ hex_into s out
   into_wrong t = rw (into_is, not-true fits t)
 
   pub into_room : not fits ≡ false → length s / 2 ≤ length out
   into_room t = leb-true (length s / 2) (length out) (and_right (length s % 2 == 0) _ (and_left _ right (not-false fits t)))
 
   pub into_done : {after : List ℕ} → not fits ≡ false → after ≡ pairs_of (map digit_value s) ++ drop (length s / 2) out
-      → hex_left (HexRead.Bytes (length s / 2)) after ≡ hex_into s out
+      → hex_left (Some (length s / 2)) after ≡ hex_into s out
   into_done t e = rw (into_is, not-false fits t, e)

@@ -7,3 +7,4 @@ pub mod HexLaws
 pub mod FieldLaws
 pub mod TextExamples
 pub mod ScanLaws
+pub mod BytesLaws

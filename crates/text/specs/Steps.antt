@@ -18,11 +18,6 @@ unfoldable pub start_after : ℕ → List ℕ → ℕ → ℕ
 start_after zero line start = start
 start_after (suc n) line start = start_after n line (field_end line start + 1)
 
--- where n fields end, the first of them at start
-unfoldable pub ends_after : ℕ → List ℕ → ℕ → List ℕ
-ends_after zero line start = []
-ends_after (suc n) line start = field_end line start ∷ ends_after n line (field_end line start + 1)
-
 -- the number of k bytes that each are b
 unfoldable pub each_byte : ℕ → ℕ → ℕ
 each_byte zero b = 0

@@ -1,12 +1,7 @@
 -- The text of a line (document 01, "Line program"): fields between commas, decimal numbers without leading zeros, bytes in hexadecimal.
-use Rattle.std.specs.Prelude.{ℕ, ◌+◌, ◌-◌, ◌*◌, ◌^◌, true, false, cond, ◌&&◌, List, [], ◌∷◌, ◌++◌, length, drop, replicate, ◌==◌, nat_le, nat_lt}
-use Rattle.std.proofs.Math.Option.{Option, none, some}
+use Rattle.std.specs.Prelude.{ℕ, ◌+◌, ◌-◌, ◌*◌, ◌^◌, cond, ◌&&◌, List, [], ◌∷◌, ◌++◌, length, drop, Option, Some, None, ◌==◌, nat_le, nat_lt}
 use Rattle.words.specs.Search.{index_of}
-use Rattle.text.specs.declared.numbers.Number.{Number}
-use Rattle.text.specs.declared.hexadecimal.Decoded.{Decoded}
-use Rattle.text.specs.declared.hexadecimal.HexRead.{HexRead}
 use Rattle.text.specs.declared.fields.Field.{Field}
-use Rattle.text.specs.declared.fields.Split.{Split}
 
 -- ---- digits
 
@@ -26,58 +21,55 @@ hex_digit x = cond (nat_lt x 10) (x + 0x30) (x + 0x57)
 
 -- the number whose digits are those of v and then s
 unfoldable pub digits_from : ℕ → List ℕ → Option ℕ
-digits_from v [] = some v
-digits_from v (b ∷ s) = cond (nat_lt (digit_value b) 10) (digits_from (v * 10 + digit_value b) s) none
+digits_from v [] = Some v
+digits_from v (b ∷ s) = cond (nat_lt (digit_value b) 10) (digits_from (v * 10 + digit_value b) s) None
 
 -- at least one digit, and no zero in front of another
 unfoldable pub decimal_of : List ℕ → Option ℕ
-decimal_of [] = none
-decimal_of (b ∷ s) = cond (b == 0x30 && nat_lt 0 (length s)) none (digits_from 0 (b ∷ s))
+decimal_of [] = None
+decimal_of (b ∷ s) = cond (b == 0x30 && nat_lt 0 (length s)) None (digits_from 0 (b ∷ s))
 
 -- a number of 64 bits
-unfoldable pub bounded : Option ℕ → Number
-bounded none = Number.Bad
-bounded (some v) = cond (nat_lt v (2 ^ 64)) (Number.Value v) Number.Bad
+unfoldable pub bounded : Option ℕ → Option ℕ
+bounded None = None
+bounded (Some v) = cond (nat_lt v (2 ^ 64)) (Some v) None
 
-abbrev pub number_in : List ℕ → Number
+abbrev pub number_in : List ℕ → Option ℕ
 number_in s = bounded (decimal_of s)
 
 -- ---- hexadecimal bytes
 
 -- b and then the bytes
 unfoldable pub byte_then : ℕ → Option (List ℕ) → Option (List ℕ)
-byte_then b none = none
-byte_then b (some s) = some (b ∷ s)
+byte_then b None = None
+byte_then b (Some s) = Some (b ∷ s)
 
 -- two digits to a byte
 unfoldable pub hex_of : List ℕ → Option (List ℕ)
-hex_of [] = some []
-hex_of (h ∷ []) = none
-hex_of (h ∷ l ∷ s) = cond (nat_lt (digit_value h) 16 && nat_lt (digit_value l) 16) (byte_then (digit_value h * 16 + digit_value l) (hex_of s)) none
+hex_of [] = Some []
+hex_of (h ∷ []) = None
+hex_of (h ∷ l ∷ s) = cond (nat_lt (digit_value h) 16 && nat_lt (digit_value l) 16) (byte_then (digit_value h * 16 + digit_value l) (hex_of s)) None
 
--- up to 32 bytes, which is what a key may have, with zeros behind them
-unfoldable pub decoded : Option (List ℕ) → Decoded
-decoded none = record { ok = false; len = 0; bytes = replicate 32 0 }
-decoded (some b) =
-    cond (nat_le (length b) 32)
-    (record { ok = true; len = length b; bytes = b ++ replicate (32 - length b) 0 })
-    (record { ok = false; len = 0; bytes = replicate 32 0 })
+-- up to 32 bytes, which is what a key may have
+unfoldable pub decoded : Option (List ℕ) → Option (List ℕ)
+decoded None = None
+decoded (Some b) = cond (nat_le (length b) 32) (Some b) None
 
-abbrev pub decoded_of : List ℕ → Decoded
+abbrev pub decoded_of : List ℕ → Option (List ℕ)
 decoded_of s = decoded (hex_of s)
 
--- what is answered of digits, and the output after it
+-- how many bytes were put, and the output after it
 pub record HexLeft : Type 0 where
-  pub read : HexRead
+  pub read : Option ℕ
   pub out : List ℕ
 
-abbrev pub hex_left : HexRead → List ℕ → HexLeft
+abbrev pub hex_left : Option ℕ → List ℕ → HexLeft
 hex_left read out = record { read = read; out = out }
 
 -- the bytes at the front of an output that has room for them; else it stays as it is
 unfoldable pub put_front : Option (List ℕ) → List ℕ → HexLeft
-put_front none out = hex_left HexRead.Bad out
-put_front (some b) out = cond (nat_le (length b) (length out)) (hex_left (HexRead.Bytes (length b)) (b ++ drop (length b) out)) (hex_left HexRead.Bad out)
+put_front None out = hex_left None out
+put_front (Some b) out = cond (nat_le (length b) (length out)) (hex_left (Some (length b)) (b ++ drop (length b) out)) (hex_left None out)
 
 abbrev pub hex_into : List ℕ → List ℕ → HexLeft
 hex_into s out = put_front (hex_of s) out
@@ -117,15 +109,3 @@ field_end line start = start + index_of comma (drop start line)
 
 abbrev pub field_at : List ℕ → ℕ → Field
 field_at line start = record { start = start; end = field_end line start }
-
--- where the fields end, the first of them at start
-unfoldable pub ends_from : ℕ → List (List ℕ) → List ℕ
-ends_from start [] = []
-ends_from start (f ∷ fs) = (start + length f) ∷ ends_from (start + length f + 1) fs
-
--- a line is right where it has six fields
-unfoldable pub split_of : List ℕ → Split
-split_of line =
-    cond (length (fields_of line) == 6)
-    (record { ok = true; ends = ends_from 0 (fields_of line) })
-    (record { ok = false; ends = replicate 6 0 })

@@ -1,21 +1,17 @@
 -- What a line program needs of decimal numbers, hexadecimal bytes and fields.
-use Rattle.std.specs.Prelude.{◌≡◌, ℕ, suc, ◌+◌, ◌-◌, ◌*◌, ◌/◌, ◌%◌, ◌^◌, ◌<◌, ◌≤◌, max, Bool, true, false, cond, ◌&&◌, List, [], ◌∷◌, ◌++◌, map, length, take, drop, replicate, ◌==◌, ◌≢◌, nat_eq, nat_le, nat_lt, slice_index, slice_index_or, slice_range}
+use Rattle.std.specs.Prelude.{◌≡◌, ℕ, suc, ◌+◌, ◌-◌, ◌*◌, ◌/◌, ◌%◌, ◌^◌, ◌<◌, ◌≤◌, max, Bool, true, false, cond, ◌&&◌, List, [], ◌∷◌, ◌++◌, map, length, take, drop, ◌==◌, ◌≢◌, nat_eq, nat_le, nat_lt, Option, Some, None}
 use Rattle.std.proofs.Math.Path.{refl}
 use Rattle.std.proofs.Common.{sym, ap, ◌∙◌, mul_assoc, mul-le-mul_right, le-add_right, le_trans, zero-lt-suc, add-one, arith, lt-ltb, le-ltb, le-leb, leb-true, ltb-true, ltb-false, eqb-true, length-append, length-drop, drop-drop}
-use Rattle.std.proofs.Math.Option.{Option, none, some}
 use Rattle.std.proofs.Math.Nat.{pow-succ', pow-le-pow_right}
 use Rattle.std.proofs.lemmas.Bool.{eqb-false}
 use Rattle.std.proofs.Math.Dec.{leb-suc-suc}
-use Rattle.std.proofs.Math.Seq.{take-append_seam, drop-append_seam}
+use Rattle.std.proofs.Math.Seq.{take-append_seam}
 use Rattle.words.specs.BoolLaws.{by-test, and_left, and_right, impossible}
 use Rattle.words.specs.Search.{index_of, index_after}
-use Rattle.text.specs.Text.{digit_value, digits_from, decimal_of, bounded, number_in, byte_then, hex_of, decoded, decoded_of, HexLeft, hex_left, put_front, hex_into, comma, longer, fields_of, behind_commas, joined, sum_lengths, field_end, ends_from, split_of}
+use Rattle.text.specs.Text.{digit_value, digits_from, decimal_of, bounded, number_in, byte_then, hex_of, decoded, decoded_of, HexLeft, hex_left, put_front, hex_into, comma, longer, fields_of, behind_commas, joined, sum_lengths, field_end}
 use Rattle.text.specs.Steps.{all_hex, pairs_of}
-use Rattle.text.specs.declared.numbers.Number.{Number}
-use Rattle.text.specs.declared.hexadecimal.HexRead.{HexRead}
-use Rattle.text.specs.declared.fields.Split.{Split}
 
-none-some : {A B : Type 0} {a : A} → ◌≡◌ {A = Option A} none (some a) → B
+none-some : {A B : Type 0} {a : A} → ◌≡◌ {A = Option A} None (Some a) → B
 none-some e = impossible (cc)
 
 -- ---- digits
@@ -60,7 +56,7 @@ decimal_value b e =
 -- ---- decimal numbers
 
 -- each digit more makes a number at least ten times as large
-pub digits_grow : (v : ℕ) (s : List ℕ) {w : ℕ} → digits_from v s ≡ some w → v * 10 ^ length s ≤ w
+pub digits_grow : (v : ℕ) (s : List ℕ) {w : ℕ} → digits_from v s ≡ Some w → v * 10 ^ length s ≤ w
 unfolding digits_from
 digits_grow v [] {w} e = let h : v ≡ w = cc in omega arith
 digits_grow v (b ∷ s) e =
@@ -70,7 +66,7 @@ digits_grow v (b ∷ s) e =
     (λ f. none-some (rw f at e))
 
 -- no leading zeros: a number below 10 ^ k has at most k digits
-pub decimal_length : (s : List ℕ) (k : ℕ) {v : ℕ} → decimal_of s ≡ some v → 0 < k → v < 10 ^ k → length s ≤ k
+pub decimal_length : (s : List ℕ) (k : ℕ) {v : ℕ} → decimal_of s ≡ Some v → 0 < k → v < 10 ^ k → length s ≤ k
 unfolding decimal_of digits_from
 decimal_length [] k e p l = omega arith
 decimal_length (b ∷ []) k e p l = omega arith
@@ -87,25 +83,25 @@ decimal_length (b ∷ c ∷ s) k {v} e p l =
     (λ m. let q = pow-le-pow_right {n = 10} (zero-lt-suc 9) (ltb-false (length (c ∷ s)) k m) in absurd (omega arith)))
     (λ u. none-some (rw (f, u) at e)))
 
-bounded-value : (o : Option ℕ) {v : ℕ} → bounded o ≡ Number.Value v → (o ≡ some v) × (v < 2 ^ 64)
+bounded-value : (o : Option ℕ) {v : ℕ} → bounded o ≡ Some v → (o ≡ Some v) × (v < 2 ^ 64)
 unfolding bounded
-bounded-value none e = impossible (cc)
-bounded-value (some w) {v} e =
+bounded-value None e = impossible (cc)
+bounded-value (Some w) {v} e =
     by-test (nat_lt w (2 ^ 64))
-    (λ t. let h : Number.Value w ≡ Number.Value v = rw t at e in
+    (λ t. let h : Some w ≡ Some v = rw t at e in
     let same : w ≡ v = cc in
     let l = ltb-true w (2 ^ 64) t in
-    (ap some same, omega arith))
-    (λ f. let h : Number.Bad ≡ Number.Value v = rw f at e in impossible (cc))
+    (ap Some same, omega arith))
+    (λ f. let h : None ≡ Some v = rw f at e in impossible (cc))
 
 -- what `decimal` answers is the number
-pub number-value : (s : List ℕ) {v : ℕ} → number_in s ≡ Number.Value v → (decimal_of s ≡ some v) × (v < 2 ^ 64)
+pub number-value : (s : List ℕ) {v : ℕ} → number_in s ≡ Some v → (decimal_of s ≡ Some v) × (v < 2 ^ 64)
 number-value s e = bounded-value (decimal_of s) e
 
 -- ---- hexadecimal bytes
 
 pair_tests : (e p q a : Bool) {x y : ℕ} (s : List ℕ) → (p && q ≡ true → x ≡ y)
-    → cond (p && q) (byte_then x (cond (e && a) (some s) none)) none ≡ cond (e && (p && (q && a))) (some (y ∷ s)) none
+    → cond (p && q) (byte_then x (cond (e && a) (Some s) None)) None ≡ cond (e && (p && (q && a))) (Some (y ∷ s)) None
 unfolding byte_then
 pair_tests true true true true s same = rw (same refl)
 pair_tests true true true false s same = refl
@@ -116,7 +112,7 @@ pair_tests false true false a s same = refl
 pair_tests false false q a s same = refl
 
 -- an even count of digits is the bytes of its pairs, and anything else is wrong
-pub hex_is : (s : List ℕ) → hex_of s ≡ cond (length s % 2 == 0 && all_hex (map digit_value s)) (some (pairs_of (map digit_value s))) none
+pub hex_is : (s : List ℕ) → hex_of s ≡ cond (length s % 2 == 0 && all_hex (map digit_value s)) (Some (pairs_of (map digit_value s))) None
 unfolding hex_of all_hex pairs_of
 hex_is [] = refl
 hex_is (h ∷ []) = refl
@@ -134,7 +130,7 @@ length_pairs [] = refl
 length_pairs (h ∷ []) = refl
 length_pairs (h ∷ l ∷ s) = let e = length_pairs s in omega arith
 
-module _ (s : List ℕ) {b : List ℕ} (e : hex_of s ≡ some b) where
+module _ (s : List ℕ) {b : List ℕ} (e : hex_of s ≡ Some b) where
   hex_tests : nat_eq (length s % 2) 0 && all_hex (map digit_value s) ≡ true
   hex_tests = by-test (length s % 2 == 0 && all_hex (map digit_value s)) (λ t. t) (λ f. none-some (rw (hex_is, f) at e))
 
@@ -142,59 +138,60 @@ module _ (s : List ℕ) {b : List ℕ} (e : hex_of s ≡ some b) where
   pub hex_length : length s ≡ 2 * length b
   hex_length =
       let even = eqb-true (length s % 2) 0 (and_left _ _ hex_tests) in
-      let h : some (pairs_of (map digit_value s)) ≡ some b = rw (hex_is, hex_tests) at e in
+      let h : Some (pairs_of (map digit_value s)) ≡ Some b = rw (hex_is, hex_tests) at e in
       let p : pairs_of (map digit_value s) ≡ b = cc in
       let l : length b ≡ length s / 2 = rw (← p) (length_pairs s) in
       omega arith
 
-decoded-front : (o : Option (List ℕ)) → (decoded o).ok ≡ true → (o ≡ some (take (decoded o).len (decoded o).bytes)) × ((decoded o).len ≤ length (decoded o).bytes)
+decoded-front : (o : Option (List ℕ)) {b : List ℕ} → decoded o ≡ Some b → (o ≡ Some b) × (length b ≤ 32)
 unfolding decoded
-decoded-front none e = impossible (cc)
-decoded-front (some b) e =
-    by-test (nat_le (length b) 32)
-    (λ t. rw (t, take-append_seam b (replicate (32 - length b) 0), length-append) (refl, le-add_right (length b) (length (replicate {A = ℕ} (32 - length b) 0))))
-    (λ f. let h : false ≡ true = rw f at e in impossible (cc))
+decoded-front None e = impossible (cc)
+decoded-front (Some k) {b} e =
+    by-test (nat_le (length k) 32)
+    (λ t. let h : Some k ≡ Some b = rw t at e in
+    let same : k ≡ b = cc in
+    (h, rw (← same) (leb-true (length k) 32 t)))
+    (λ f. let h : None ≡ Some b = rw f at e in impossible (cc))
 
--- what `hex` decoded stands at the front of the bytes
-pub hex_decoded : (s : List ℕ) → (decoded_of s).ok ≡ true
-    → (hex_of s ≡ some (take (decoded_of s).len (decoded_of s).bytes)) × ((decoded_of s).len ≤ length (decoded_of s).bytes)
+-- what `hex` decoded are the bytes
+pub hex_decoded : (s : List ℕ) {b : List ℕ} → decoded_of s ≡ Some b → (hex_of s ≡ Some b) × (length b ≤ 32)
 hex_decoded s e = decoded-front (hex_of s) e
 
 answered : {a b : HexLeft} → a ≡ b → a.read ≡ b.read
 answered e = ap (λ (l : HexLeft). l.read) e
 
-put_front_lem : (o : Option (List ℕ)) (out after : List ℕ) (n : ℕ) → hex_left (HexRead.Bytes n) after ≡ put_front o out
-    → (o ≡ some (take n after)) × (n ≤ length after)
+put_front_lem : (o : Option (List ℕ)) (out after : List ℕ) (n : ℕ) → hex_left (Some n) after ≡ put_front o out
+    → (o ≡ Some (take n after)) × (n ≤ length after)
 unfolding put_front
-put_front_lem none out after n e = let h = answered e in impossible (cc)
-put_front_lem (some b) out after n e =
+put_front_lem None out after n e = let h = answered e in impossible (cc)
+put_front_lem (Some b) out after n e =
     by-test (nat_le (length b) (length out))
-    (λ t. let h : hex_left (HexRead.Bytes n) after ≡ hex_left (HexRead.Bytes (length b)) (b ++ drop (length b) out) = rw t at e in
+    (λ t. let h : hex_left (Some n) after ≡ hex_left (Some (length b)) (b ++ drop (length b) out) = rw t at e in
     let read = answered h in
     let count : n ≡ length b = cc in
     rw (count, ap (λ (l : HexLeft). l.out) h, take-append_seam b (drop (length b) out), length-append)
     (refl, le-add_right (length b) (length (drop (length b) out))))
-    (λ f. let h : HexRead.Bytes n ≡ HexRead.Bad = answered (rw f at e) in impossible (cc))
+    (λ f. let h : Some n ≡ None = answered (rw f at e) in impossible (cc))
 
-put-bad : (o : Option (List ℕ)) (out after : List ℕ) → hex_left HexRead.Bad after ≡ put_front o out → ((b : List ℕ) → o ≡ some b → length b ≤ length out) → o ≡ none
+put-bad : (o : Option (List ℕ)) (out after : List ℕ) → hex_left None after ≡ put_front o out → ((b : List ℕ) → o ≡ Some b → length b ≤ length out) → o ≡ None
 unfolding put_front
-put-bad none out after e fits = refl
-put-bad (some b) out after e fits =
-    let h : HexRead.Bad ≡ HexRead.Bytes (length b) = answered (rw (le-leb (length b) (length out) (fits b refl)) at e) in impossible (cc)
+put-bad None out after e fits = refl
+put-bad (Some b) out after e fits =
+    let h : None ≡ Some (length b) = answered (rw (le-leb (length b) (length out) (fits b refl)) at e) in impossible (cc)
 
-module _ (s out : List ℕ) {r : HexRead} {after : List ℕ} (read : hex_left r after ≡ hex_into s out) where
+module _ (s out : List ℕ) {r : Option ℕ} {after : List ℕ} (read : hex_left r after ≡ hex_into s out) where
   -- what `hex_into` put stands at the front of the output
-  pub into_bytes : {n : ℕ} → r ≡ HexRead.Bytes n → (hex_of s ≡ some (take n after)) × (n ≤ length after)
+  pub into_bytes : {n : ℕ} → r ≡ Some n → (hex_of s ≡ Some (take n after)) × (n ≤ length after)
   into_bytes {n} e = put_front_lem (hex_of s) out after n (rw (← e) read)
 
   -- what it refuses is wrong, where the output has room
-  pub into_bad : length s ≤ 2 * length out + 1 → r ≡ HexRead.Bad → hex_of s ≡ none
+  pub into_bad : length s ≤ 2 * length out + 1 → r ≡ None → hex_of s ≡ None
   into_bad l e = put-bad (hex_of s) out after (rw (← e) read) (λ b h. omega (arith, hex_length s h))
 
 -- ---- fields
 
 -- the first field is what stands before the first comma
-fields-first : (s : List ℕ)
+pub fields-first : (s : List ℕ)
     → fields_of s ≡ take (index_of comma s) s ∷ cond (nat_lt (index_of comma s) (length s)) (fields_of (drop (index_of comma s + 1) s)) []
 unfolding fields_of longer index_of index_after
 fields-first [] = refl
@@ -260,77 +257,3 @@ fields-from line start l =
         by-test (nat_lt n (length (drop start line)))
         (λ t. t ∙ sym (lt-ltb (start + n) (length line) (omega (arith, ltb-true n (length (drop start line)) t))))
         (λ f. f ∙ sym (le-ltb (start + n) (length line) (omega (arith, ltb-false n (length (drop start line)) f))))
-
--- ---- six fields
-
--- the parts of the line that end at the places, the first of them from start on
-parts_from : List ℕ → ℕ → List ℕ → List (List ℕ)
-parts_from line start [] = []
-parts_from line start (e ∷ es) = slice_range line start e ∷ parts_from line (e + 1) es
-
--- the fields of a line are found again by where they end
-parts_found : (line f : List ℕ) (fs : List (List ℕ)) (start : ℕ) → drop start line ≡ joined (f ∷ fs) → parts_from line start (ends_from start (f ∷ fs)) ≡ f ∷ fs
-unfolding parts_from ends_from joined behind_commas
-parts_found line f [] start e =
-    let n : start + length f - start ≡ length f = omega arith in
-    rw (n, e, take-append_seam f [])
-parts_found line f (g ∷ gs) start e =
-    let n : start + length f - start ≡ length f = omega arith in
-    let next : drop (start + length f + 1) line ≡ joined (g ∷ gs) =
-    rw (← drop-drop 1 (start + length f) line, ← drop-drop (length f) start line, e, drop-append_seam f (comma ∷ (g ++ behind_commas gs))) in
-    rw (n, parts_found line g gs (start + length f + 1) next, e, take-append_seam f (comma ∷ (g ++ behind_commas gs)))
-
--- what `split_six` says of a line where it answers ok: the fields are the parts between the ends, and each part lies in the line
-pub record SixFields (line ends : List ℕ) : Type 0 where
-  pub fields : fields_of line
-      ≡ take (slice_index ends 0) line
-      ∷ take (slice_index ends 1 - (slice_index ends 0 + 1)) (drop (slice_index ends 0 + 1) line)
-      ∷ take (slice_index ends 2 - (slice_index ends 1 + 1)) (drop (slice_index ends 1 + 1) line)
-      ∷ take (slice_index ends 3 - (slice_index ends 2 + 1)) (drop (slice_index ends 2 + 1) line)
-      ∷ take (slice_index ends 4 - (slice_index ends 3 + 1)) (drop (slice_index ends 3 + 1) line)
-      ∷ take (slice_index ends 5 - (slice_index ends 4 + 1)) (drop (slice_index ends 4 + 1) line)
-      ∷ []
-  pub second : slice_index_or ends 0 0 < slice_index ends 1
-  pub third : slice_index_or ends 1 0 < slice_index ends 2
-  pub fourth : slice_index_or ends 2 0 < slice_index ends 3
-  pub fifth : slice_index_or ends 3 0 < slice_index ends 4
-  pub sixth : slice_index_or ends 4 0 < slice_index ends 5
-  pub whole : slice_index_or ends 5 0 ≡ length line
-
-six-by : (line : List ℕ) (fs : List (List ℕ)) → fields_of line ≡ fs → length fs ≡ 6 → SixFields line (ends_from 0 fs)
-unfolding ends_from parts_from sum_lengths
-six-by line (a ∷ b ∷ c ∷ d ∷ e ∷ f ∷ []) p l =
-    let whole = rw p at (length_fields line) in
-    let z : 0 + length a - 0 ≡ 0 + length a = omega arith in
-    let found = parts_found line a (b ∷ c ∷ d ∷ e ∷ f ∷ []) 0 (sym (rw p at (fields-joined line))) in
-    record {
-      fields = p ∙ sym (rw z at found);
-      second = omega arith;
-      third = omega arith;
-      fourth = omega arith;
-      fifth = omega arith;
-      sixth = omega arith;
-      whole = omega arith;
-    }
-six-by line [] p l = absurd (omega arith)
-six-by line (a ∷ []) p l = absurd (omega arith)
-six-by line (a ∷ b ∷ []) p l = absurd (omega arith)
-six-by line (a ∷ b ∷ c ∷ []) p l = absurd (omega arith)
-six-by line (a ∷ b ∷ c ∷ d ∷ []) p l = absurd (omega arith)
-six-by line (a ∷ b ∷ c ∷ d ∷ e ∷ []) p l = absurd (omega arith)
-six-by line (a ∷ b ∷ c ∷ d ∷ e ∷ f ∷ g ∷ fs) p l = absurd (omega arith)
-
-module _ (line : List ℕ) {r : Split} (split : r ≡ split_of line) where
-  pub six-fields : r.ok ≡ true → SixFields line r.ends
-  unfolding split_of
-  six-fields t =
-      by-test (length (fields_of line) == 6)
-      (λ s. rw (split, s) (six-by line (fields_of line) refl (eqb-true (length (fields_of line)) 6 s)))
-      (λ s. let z : false ≡ true = rw (split, s) at t in impossible (cc))
-
-  pub other-fields : r.ok ≡ false → (length (fields_of line) == 6) ≡ false
-  unfolding split_of
-  other-fields t =
-      by-test (length (fields_of line) == 6)
-      (λ s. let z : true ≡ false = rw (split, s) at t in rw s z)
-      (λ s. s)

@@ -1,13 +1,6 @@
 // Digits, decimal and hexadecimal.
-ghost use Rattle.std.specs.Prelude.{◌≡◌, ◌-◌, ◌<◌, if◌then◌else◌, nat_lt};
+ghost use Rattle.std.specs.Prelude.{◌≡◌, ◌<◌, if◌then◌else◌, nat_lt};
 ghost use Rattle.text.specs.Text.{digit_value, hex_digit};
-
-// a less b, or 0.
-fn minus(a: u8, b: u8) -> u8
-    ensures { result ≡ a - b }
-{
-    if b <= a { a - b } else { 0 }
-}
 
 fn pick(first: bool, a: u8, b: u8) -> u8
     ensures { result ≡ (if first then a else b) }
@@ -27,9 +20,9 @@ pub(crate) fn is_decimal(b: u8) -> bool
 pub(crate) fn digit(b: u8) -> u8
     ensures { result ≡ digit_value b }
 {
-    let lower = pick((0x61 <= b) & (b <= 0x66), minus(b, 0x57), 16);
-    let letter = pick((0x41 <= b) & (b <= 0x46), minus(b, 0x37), lower);
-    pick((0x30 <= b) & (b <= 0x39), minus(b, 0x30), letter)
+    let lower = pick((0x61 <= b) & (b <= 0x66), b.saturating_sub(0x57), 16);
+    let letter = pick((0x41 <= b) & (b <= 0x46), b.saturating_sub(0x37), lower);
+    pick((0x30 <= b) & (b <= 0x39), b.saturating_sub(0x30), letter)
 }
 
 // A digit's figure or small letter.

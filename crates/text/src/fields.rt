@@ -1,6 +1,6 @@
 // The fields of a line: the parts between its commas.
-ghost use Rattle.std.specs.Prelude.{◌≡◌};
-ghost use Rattle.text.specs.Text.{field_at, split_of};
+ghost use Rattle.std.specs.Prelude.{◌≡◌, [], ◌∷◌, IfNone, IfSome};
+ghost use Rattle.text.specs.Text.{fields_of, field_at};
 
 use crate::scan::find;
 
@@ -11,13 +11,6 @@ const COMMA: u8 = 0x2c;
 pub struct Field {
     pub start: usize,
     pub end: usize,
-}
-
-// Whether a line has six fields, and the places where they end; six zeros where it has not.
-#[derive(Clone, Copy)]
-pub struct Split {
-    pub ok: bool,
-    pub ends: [usize; 6],
 }
 
 // The field that starts at start: it ends at the next comma, or at the line's end.
@@ -31,26 +24,14 @@ pub fn field_at(line: &[u8], start: usize) -> Field
     Field { start, end }
 }
 
-// The line in six fields, each from past the comma that ends the one before it.
-// A caller reads `let end = ends[i]` and lends `&line[start..end]`; `six-fields` of specs/TextLaws.antt says of an ok answer that these parts
-// are the fields and lie in the line, and `other-fields` of another that the fields are not six.
-pub fn split_six(line: &[u8]) -> Split
-    ensures { result ≡ split_of line.now }
+// The first field of the line, and what stands behind the comma that ends it.
+pub fn first_field(line: &[u8]) -> (&[u8], Option<&[u8]>)
+    ensures last { IfNone result.1 (fields_of line.now ≡ result.0.now ∷ []) }
+    ensures more { IfSome result.1 (λ rest. fields_of line.now ≡ result.0.now ∷ fields_of rest.now) }
 {
-    let mut ends = [0usize; 6];
-    let mut start = 0;
-    let mut i = 0;
-    while i < 6 {
-        let end = field_at(line, start).end;
-        ends[i] = end;
-        start = end + 1;
-        i += 1;
+    let end = find(line, 0, line.len(), COMMA);
+    if end == line.len() {
+        return (line, None);
     }
-    if start != line.len() + 1 {
-        return Split {
-            ok: false,
-            ends: [0usize; 6],
-        };
-    }
-    Split { ok: true, ends }
+    (&line[..end], Some(&line[end + 1..]))
 }

@@ -1,14 +1,16 @@
 // The text of a line (document 01, "Line program"): its fields, decimal numbers and hexadecimal bytes.
 #![tactic(auto)]
 
+mod bytes;
 mod digit;
 mod fields;
 mod hexadecimal;
 mod numbers;
 mod scan;
 
+pub use bytes::Bytes;
 pub use digit::hex_digit;
-pub use fields::{Field, Split, field_at, split_six};
-pub use hexadecimal::{Decoded, HexRead, hex, hex_into};
-pub use numbers::{Number, decimal};
+pub use fields::{Field, field_at, first_field};
+pub use hexadecimal::{hex, hex_into};
+pub use numbers::decimal;
 pub use scan::find;

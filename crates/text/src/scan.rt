@@ -34,12 +34,10 @@ fn find_each(s: &[u8], from: usize, to: usize, b: u8) -> usize
     ensures value { result ≡ from + index_of b (slice from to s.now) }
     ensures upper_bound { result ≤ to }
 {
-    let mut at = from;
-    while at < to {
+    for at in from..to {
         if s[at] == b {
             return at;
         }
-        at += 1;
     }
     to
 }
@@ -52,6 +50,7 @@ pub fn find(s: &[u8], from: usize, to: usize, b: u8) -> usize
     ensures upper_bound { result ≤ to }
 {
     let mut at = from;
+    // A step is eight bytes, and the last few are left: a range by `step_by` has no end to say so plainly.
     while at + 8 <= to {
         let found = marks(s, at, b);
         if found != 0 {

@@ -2,21 +2,17 @@ use Rattle.text.specs.DecimalLaws.{decimal_empty, decimal_digits_lem, decimal_ze
 use Rattle.std.proofs.Common.{arith}
 use Rattle.text.proofs.numbers.decimal.Goals as goal
 
-pub returns-then-s-eq0 : goal.returns-then-s-eq0
-returns-then-s-eq0 c = decimal_empty c.args.s.now c.if-s-eq0.true
+pub returns-in-empty : goal.returns-in-empty
+returns-in-empty c = decimal_empty c.args.s.now (omega arith)
 
-pub returns-then-s-le19 : goal.returns-then-s-le19
-returns-then-s-le19 c =
-    decimal_digits_lem c.args.s.now c.if-s-eq0.false c.if-s-ne48.true c.few_digits.ensures
+pub returns-then-rest-eq0 : goal.returns-then-rest-eq0
+returns-then-rest-eq0 c = decimal_zero c.args.s.now (omega arith) (omega arith)
 
-pub returns-then-s-ne48 : goal.returns-then-s-ne48
-returns-then-s-ne48 c =
-    decimal_digits_lem c.args.s.now c.if-s-eq0.false c.if-s-ne48.true c.digits.ensures
+pub returns-else-rest-eq0 : goal.returns-else-rest-eq0
+returns-else-rest-eq0 c = decimal_leading c.args.s.now (omega arith) (λ e. omega arith)
 
-pub returns-then-s-eq1 : goal.returns-then-s-eq1
-returns-then-s-eq1 c =
-    decimal_zero c.args.s.now c.if-s-ne48.false (omega arith)
+pub returns-in_default : goal.returns-in_default
+returns-in_default c = decimal_digits_lem c.args.s.now (λ e. omega arith) (λ e. omega arith) c.few_digits.ensures
 
-pub returns : goal.returns
-returns c =
-    decimal_leading c.args.s.now c.if-s-ne48.false (omega arith)
+pub returns-in_default-2 : goal.returns-in_default-2
+returns-in_default-2 c = decimal_digits_lem c.args.s.now (λ e. omega arith) (λ e. omega arith) c.digits.ensures

@@ -2,25 +2,25 @@ use Rattle.std.proofs.Common.{arith}
 use Rattle.text.specs.DecimalLaws.{read_none, all_room, read-all_more, all_right, some-wrong}
 use Rattle.text.proofs.numbers.few_digits.Goals as goal
 
-pub loop-i-init : goal.loop-i-init
-loop-i-init c = read_none c.args.s.now
+pub loop-b-init : goal.loop-b-init
+loop-b-init c = read_none c.args.s.now
 
 pub overflow_mul-value : goal.overflow_mul-value
 overflow_mul-value c =
-    omega (arith, all_room c.args.s.now c.requires c.loop-i.invariant c.loop-i-test.true)
+    omega (arith, all_room c.args.s.now c.requires c.loop-b.invariant c.loop-b-test.true)
 
 pub overflow_add-value : goal.overflow_add-value
 overflow_add-value c =
-    omega (arith, all_room c.args.s.now c.requires c.loop-i.invariant c.loop-i-test.true)
+    omega (arith, all_room c.args.s.now c.requires c.loop-b.invariant c.loop-b-test.true)
 
-pub loop-i-preserved : goal.loop-i-preserved
-loop-i-preserved c =
-    read-all_more c.args.s.now c.requires c.loop-i.invariant c.loop-i-test.true c.is_decimal-right.ensures
+pub loop-b-preserved : goal.loop-b-preserved
+loop-b-preserved c =
+    read-all_more c.args.s.now c.requires c.loop-b.invariant c.loop-b-test.true c.is_decimal-right.ensures
 
 pub returns-then-right : goal.returns-then-right
 returns-then-right c =
-    all_right c.args.s.now c.requires c.loop-i.invariant c.loop-i-test.false c.if-right.true
+    all_right c.args.s.now c.requires c.loop-b.invariant c.loop-b-test.false c.if-right.true
 
-pub returns : goal.returns
-returns c =
-    some-wrong c.args.s.now c.requires c.loop-i.invariant c.loop-i-test.false c.if-right.false
+pub returns-else-right : goal.returns-else-right
+returns-else-right c =
+    some-wrong c.args.s.now c.requires c.loop-b.invariant c.loop-b-test.false c.if-right.false
