@@ -1,21 +1,62 @@
-use Rattle.std.proofs.Common.{arith}
-use Rattle.call_lines.specs.LineLaws.{read_none, read_as, count_small, line-miscounted, name_first, line_unread, line_read}
+use Rattle.call_lines.specs.Line.{fields_read}
+use Rattle.call_lines.specs.LineLaws.{read_none, read_as}
 use Rattle.call_lines.proofs.calls.call_line.Goals as goal
 
-pub has_fields-requires : goal.has_fields-requires
-has_fields-requires c = record { n_bound = count_small c.name_of-name.result c.count_of-count.ensures; line_len_bound = c.requires }
+pub returns-in_default : goal.returns-in_default
+unfolding fields_read
+returns-in_default c = read_none _ _ (rw (← c.field.ensures, ← c.name_of.ensures, c.in_default.is))
 
 pub returns-then-not-has_fields : goal.returns-then-not-has_fields
-returns-then-not-has_fields c = read_none _ _ (line-miscounted _ c.field.ensures c.name_of-name.ensures c.count_of-count.ensures c.has_fields.ensures c.if-not-has_fields.true-raw)
+unfolding fields_read
+returns-then-not-has_fields c =
+    read_none _ _
+    (rw (← c.field.ensures, ← c.name_of.ensures, c.in-Some.is, ← c.count-count.ensures.value, ← c.has_fields.ensures, c.if-not-has_fields.true))
 
-pub overflow_sub-count : goal.overflow_sub-count
-overflow_sub-count c = name_first _ c.field.ensures c.name_of-name.ensures c.count_of-count.ensures c.has_fields.ensures c.if-not-has_fields.false-raw
+pub returns-in_default-number_at : goal.returns-in_default-number_at
+unfolding fields_read
+returns-in_default-number_at c =
+    read_none _ _
+    (rw (
+      ← c.field.ensures,
+      ← c.name_of.ensures,
+      c.in-Some.is,
+      ← c.count-count.ensures.value,
+      ← c.has_fields.ensures,
+      c.if-not-has_fields.false,
+      ← c.number_at.ensures,
+      c.in_default-number_at.is,
+    ))
 
-pub number_at-clock-requires : goal.number_at-clock-requires
-number_at-clock-requires c = record { i_bound = let h = count_small c.name_of-name.result c.count_of-count.ensures in omega arith; line_len_bound = c.requires }
-
-pub returns-then-not-serial-clock : goal.returns-then-not-serial-clock
-returns-then-not-serial-clock c = read_none _ _ (line_unread _ c.field.ensures c.name_of-name.ensures c.count_of-count.ensures c.has_fields.ensures c.if-not-has_fields.false-raw _ _ _ _ c.number_at-serial.ensures.i_value c.number_at-clock.ensures.i_value c.if-not-serial-clock.true-raw)
+pub returns-in_default-number_at-2 : goal.returns-in_default-number_at-2
+unfolding fields_read
+returns-in_default-number_at-2 c =
+    read_none _ _
+    (rw (
+      ← c.field.ensures,
+      ← c.name_of.ensures,
+      c.in-Some.is,
+      ← c.count-count.ensures.value,
+      ← c.has_fields.ensures,
+      c.if-not-has_fields.false,
+      ← c.number_at.ensures,
+      c.in-Some-number_at.is,
+      ← c.number_at-2.ensures,
+      c.in_default-number_at-2.is,
+    ))
 
 pub returns : goal.returns
-returns c = read_as _ _ c.named_line.ensures (line_read _ c.field.ensures c.name_of-name.ensures c.count_of-count.ensures c.has_fields.ensures c.if-not-has_fields.false-raw _ _ _ _ c.number_at-serial.ensures.i_value c.number_at-clock.ensures.i_value c.if-not-serial-clock.false-raw)
+unfolding fields_read
+returns c =
+    read_as _ _ c.named_line.ensures
+    (rw (
+      ← c.field.ensures,
+      ← c.name_of.ensures,
+      c.in-Some.is,
+      ← c.count-count.ensures.value,
+      ← c.has_fields.ensures,
+      c.if-not-has_fields.false,
+      ← c.number_at.ensures,
+      c.in-Some-number_at.is,
+      ← c.number_at-2.ensures,
+      c.in-Some-number_at-2.is,
+    ))
