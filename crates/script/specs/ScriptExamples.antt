@@ -1,6 +1,5 @@
 -- What the lines of a script print (docs/DESK-LINES.md), computed.
-use Rattle.std.specs.Prelude.{ℕ, ◌≡◌, refl, List, [], ◌∷◌, ◌++◌, map, replicate}
-use Rattle.std.proofs.Math.Option.{none, some}
+use Rattle.std.specs.Prelude.{ℕ, ◌≡◌, refl, List, [], ◌∷◌, ◌++◌, map, replicate, None, Some}
 use Rattle.words.specs.Lists.{same_bytes}
 use Rattle.words.specs.Bytes.{be_at}
 use Rattle.text.specs.Text.{digit_value, digits_from, decimal_of, longer, fields_of, hex_of, byte_then}
@@ -25,7 +24,7 @@ table_line = 0x74 ∷ 0x61 ∷ 0x62 ∷ 0x6c ∷ 0x65 ∷ []
 
 -- N of 1 and 256; none of no number, 0, 257 and 01
 pub rows-asked : map (λ n. rows_of (rows_line n)) ((0x31 ∷ []) ∷ (0x32 ∷ 0x35 ∷ 0x36 ∷ []) ∷ [] ∷ (0x30 ∷ []) ∷ (0x32 ∷ 0x35 ∷ 0x37 ∷ []) ∷ (0x30 ∷ 0x31 ∷ []) ∷ [])
-    ≡ some 1 ∷ some 256 ∷ none ∷ none ∷ none ∷ none ∷ []
+    ≡ Some 1 ∷ Some 256 ∷ None ∷ None ∷ None ∷ None ∷ []
 unfolding rows_of same_bytes digit_value digits_from decimal_of
 rows-asked = refl
 
