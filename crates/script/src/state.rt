@@ -4,6 +4,7 @@ ghost use Rattle.std.specs.Prelude.{◌≤◌};
 use crate::sizes::{LONGEST, TABLE};
 
 // The line that no line feed has ended yet: the first n bytes. One more than the buffer has stands for the length of a longer line.
+#[derive(Drop)]
 pub struct Pending {
     pub line: [u8; LONGEST],
     pub n: usize,
@@ -18,6 +19,7 @@ pub struct Stage {
 }
 
 // The rows stand at the front of the bytes.
+#[derive(Drop)]
 pub struct Table {
     pub bytes: [u8; TABLE],
     pub stage: Stage,
