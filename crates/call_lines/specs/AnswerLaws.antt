@@ -1,12 +1,10 @@
 -- The text of an answer: what is printed of a number is read again as that number, and no answer has more than 40 bytes.
 use Rattle.token.specs.Answers.{Answer}
-use Rattle.std.specs.Prelude.{ℕ, zero, suc, ◌+◌, ◌-◌, ◌*◌, ◌/◌, ◌%◌, ◌^◌, ◌≤◌, ◌<◌, ◌≡◌, refl, List, [], ◌∷◌, ◌++◌, eqb, leb, ltb, length, get_or, Err, Ok}
+use Rattle.std.specs.Prelude.{ℕ, zero, suc, ◌+◌, ◌-◌, ◌*◌, ◌/◌, ◌%◌, ◌^◌, ◌≤◌, ◌<◌, ◌≡◌, refl, List, [], ◌∷◌, ◌++◌, eqb, leb, ltb, length, get_or, Some, None, Err, Ok}
 use Rattle.std.proofs.Common.{sym, ◌∙◌, pow-suc, div-lt_iff_lt-mul, lt_of_lt_of_le, zero-lt-suc, arith, eqb-true, lt-ltb, le-leb, ltb-true, ltb-false, leb-false, lit≤, length-append}
-use Rattle.std.proofs.Math.Option.{none, some}
 use Rattle.std.proofs.lemmas.Bool.{eqb-false}
 use Rattle.std.proofs.Math.ListN.{get_or-append}
 use Rattle.words.specs.BoolLaws.{by-test}
-use Rattle.text.specs.declared.numbers.Number.{Number}
 use Rattle.text.specs.Text.{comma, digit_value, digits_from, decimal_of, bounded, number_in}
 use Rattle.text.specs.DecimalLaws.{decimal_digits_lem}
 use Rattle.window.specs.declared.Offset.{Offset}
@@ -22,11 +20,11 @@ digit_value_lem : (d : ℕ) → d < 10 → digit_value (d + 0x30) ≡ d
 unfolding digit_value
 digit_value_lem d l = let z : d + 0x30 - 0x30 ≡ d = omega arith in rw (le-leb 0x30 (d + 0x30) (omega arith), le-leb (d + 0x30) 0x39 (omega arith), z)
 
-digit_read : (v d : ℕ) → d < 10 → digits_from v ((d + 0x30) ∷ []) ≡ some (v * 10 + d)
+digit_read : (v d : ℕ) → d < 10 → digits_from v ((d + 0x30) ∷ []) ≡ Some (v * 10 + d)
 unfolding digits_from
 digit_read v d l = rw (digit_value_lem d l, lt-ltb d 10 l)
 
-digits-behind : (v : ℕ) (s t : List ℕ) → digits_from v (s ++ t) ≡ given (digits_from v s) none (λ w. digits_from w t)
+digits-behind : (v : ℕ) (s t : List ℕ) → digits_from v (s ++ t) ≡ given (digits_from v s) None (λ w. digits_from w t)
 unfolding digits_from
 digits-behind v [] t = refl
 digits-behind v (b ∷ s) t =
@@ -34,7 +32,7 @@ digits-behind v (b ∷ s) t =
     (λ y. rw y (digits-behind (v * 10 + digit_value b) s t))
     (λ n. rw n)
 
-digits-read : (n x : ℕ) → x < 10 ^ n → digits_from 0 (decimal_digits n x) ≡ some x
+digits-read : (n x : ℕ) → x < 10 ^ n → digits_from 0 (decimal_digits n x) ≡ Some x
 unfolding decimal_digits digits_from
 digits-read zero x l = let e : x ≡ 0 = omega arith in rw e
 digits-read (suc n) x l =
@@ -65,7 +63,7 @@ no-zero-first (suc (suc n)) x p l e =
     no-zero-first (suc n) (x / 10) (omega arith) ((div-lt_iff_lt-mul (zero-lt-suc 9)).1 (rw (pow-suc 10 (suc n)) at l))
     (sym (get_or-append (decimal_digits (suc n) (x / 10)) ((x % 10 + 0x30) ∷ []) 0 0 (digits-there n (x / 10))) ∙ rw m at e))
 
-pub decimal_again : (x : ℕ) → x < 2 ^ 64 → Number.Value x ≡ number_in (decimal_text x)
+pub decimal_again : (x : ℕ) → x < 2 ^ 64 → Some x ≡ number_in (decimal_text x)
 unfolding decimal_digits decimal_of digits_from digit_value bounded
 decimal_again x l =
     by-test (eqb x 0)

@@ -1,7 +1,7 @@
 -- What a line of the program desk_lines means (its format: "Lines for the desk"): the call or the message that is served, and what is printed for it.
 use Rattle.token.specs.Answers.{Answer}
-use Rattle.std.specs.Prelude.{ℕ, zero, suc, ◌+◌, ◌-◌, ◌/◌, ◌%◌, ◌^◌, Bool, cond, List, [], ◌∷◌, ◌++◌, eqb, leb, ltb, length, get_or, replicate, Err, Ok}
-use Rattle.std.proofs.Math.Option.{Option, none, some}
+use Rattle.std.specs.Prelude.{ℕ, zero, suc, ◌+◌, ◌-◌, ◌/◌, ◌%◌, ◌^◌, Bool, cond, List, [], ◌∷◌, ◌++◌, eqb, leb, ltb, length, get_or, Option, Some, None, Err, Ok}
+use Rattle.std.specs.List.{find}
 use Rattle.words.specs.Lists.{same_bytes}
 use Rattle.text.specs.Text.{hex_digit, comma, decimal_of, hex_of, fields_of}
 use Rattle.window.specs.PasswordAt.{PasswordRule}
@@ -11,31 +11,32 @@ use Rattle.desk.specs.declared.Particulars.{Particulars}
 use Rattle.desk.specs.Requests.{DeskCall, login_call, challenge_call, activate_call, lock_call, unlock_call, suspend_call, resume_call, sync_call, void_call, query_call}
 use Rattle.desk.specs.Reads.{Reads, read_after}
 use Rattle.message_calls.specs.Serving.{message_reads}
-use Rattle.call_lines.specs.declared.Printed.{Printed}
 use Rattle.call_lines.specs.declared.names.Name.{Name}
 
 -- ---- names
 
-abbrev pub is_named : List ℕ → List ℕ → Name → Name → Name
-is_named field text name other = cond (same_bytes field text) name other
+-- as the first field of a line has them: load, login, challenge, activate, lock, suspend, void, query, unlock, resume, sync
+abbrev pub text_of : Name → List ℕ
+text_of Name.Load = 0x6c ∷ 0x6f ∷ 0x61 ∷ 0x64 ∷ []
+text_of Name.Login = 0x6c ∷ 0x6f ∷ 0x67 ∷ 0x69 ∷ 0x6e ∷ []
+text_of Name.Challenge = 0x63 ∷ 0x68 ∷ 0x61 ∷ 0x6c ∷ 0x6c ∷ 0x65 ∷ 0x6e ∷ 0x67 ∷ 0x65 ∷ []
+text_of Name.Activate = 0x61 ∷ 0x63 ∷ 0x74 ∷ 0x69 ∷ 0x76 ∷ 0x61 ∷ 0x74 ∷ 0x65 ∷ []
+text_of Name.Lock = 0x6c ∷ 0x6f ∷ 0x63 ∷ 0x6b ∷ []
+text_of Name.Suspend = 0x73 ∷ 0x75 ∷ 0x73 ∷ 0x70 ∷ 0x65 ∷ 0x6e ∷ 0x64 ∷ []
+text_of Name.Void = 0x76 ∷ 0x6f ∷ 0x69 ∷ 0x64 ∷ []
+text_of Name.Query = 0x71 ∷ 0x75 ∷ 0x65 ∷ 0x72 ∷ 0x79 ∷ []
+text_of Name.Unlock = 0x75 ∷ 0x6e ∷ 0x6c ∷ 0x6f ∷ 0x63 ∷ 0x6b ∷ []
+text_of Name.Resume = 0x72 ∷ 0x65 ∷ 0x73 ∷ 0x75 ∷ 0x6d ∷ 0x65 ∷ []
+text_of Name.Sync = 0x73 ∷ 0x79 ∷ 0x6e ∷ 0x63 ∷ []
 
--- load, login, challenge, activate, lock, suspend, void, query, unlock, resume, sync
-unfoldable pub name_of : List ℕ → Name
-name_of field =
-    is_named field (0x6c ∷ 0x6f ∷ 0x61 ∷ 0x64 ∷ []) Name.Load
-    (is_named field (0x6c ∷ 0x6f ∷ 0x67 ∷ 0x69 ∷ 0x6e ∷ []) Name.Login
-    (is_named field (0x63 ∷ 0x68 ∷ 0x61 ∷ 0x6c ∷ 0x6c ∷ 0x65 ∷ 0x6e ∷ 0x67 ∷ 0x65 ∷ []) Name.Challenge
-    (is_named field (0x61 ∷ 0x63 ∷ 0x74 ∷ 0x69 ∷ 0x76 ∷ 0x61 ∷ 0x74 ∷ 0x65 ∷ []) Name.Activate
-    (is_named field (0x6c ∷ 0x6f ∷ 0x63 ∷ 0x6b ∷ []) Name.Lock
-    (is_named field (0x73 ∷ 0x75 ∷ 0x73 ∷ 0x70 ∷ 0x65 ∷ 0x6e ∷ 0x64 ∷ []) Name.Suspend
-    (is_named field (0x76 ∷ 0x6f ∷ 0x69 ∷ 0x64 ∷ []) Name.Void
-    (is_named field (0x71 ∷ 0x75 ∷ 0x65 ∷ 0x72 ∷ 0x79 ∷ []) Name.Query
-    (is_named field (0x75 ∷ 0x6e ∷ 0x6c ∷ 0x6f ∷ 0x63 ∷ 0x6b ∷ []) Name.Unlock
-    (is_named field (0x72 ∷ 0x65 ∷ 0x73 ∷ 0x75 ∷ 0x6d ∷ 0x65 ∷ []) Name.Resume
-    (is_named field (0x73 ∷ 0x79 ∷ 0x6e ∷ 0x63 ∷ []) Name.Sync
-    Name.Unknown))))))))))
+abbrev pub names : List Name
+names =
+    Name.Load ∷ Name.Login ∷ Name.Challenge ∷ Name.Activate ∷ Name.Lock ∷ Name.Suspend ∷ Name.Void ∷ Name.Query ∷ Name.Unlock ∷ Name.Resume ∷ Name.Sync ∷ []
 
--- how many fields a line has, its name among them; no line has 0
+unfoldable pub name_of : List ℕ → Option Name
+name_of field = find (λ name. same_bytes field (text_of name)) names
+
+-- how many fields a line has, its name among them
 abbrev pub count_of : Name → ℕ
 count_of Name.Load = 10
 count_of Name.Login = 4
@@ -48,7 +49,6 @@ count_of Name.Query = 3
 count_of Name.Unlock = 4
 count_of Name.Resume = 4
 count_of Name.Sync = 6
-count_of Name.Unknown = 0
 
 -- ---- fields
 
@@ -58,20 +58,16 @@ field_of fields i = get_or fields i []
 
 -- what follows of a value that was read, and what stands for it where it was not
 abbrev pub given : {A B : Type 0} → Option A → B → (A → B) → B
-given none other f = other
-given (some x) other f = f x
+given None other f = other
+given (Some x) other f = f x
 
 abbrev pub below : ℕ → Option ℕ → Option ℕ
-below limit none = none
-below limit (some x) = cond (ltb x limit) (some x) none
+below limit None = None
+below limit (Some x) = cond (ltb x limit) (Some x) None
 
 -- a number that its field can hold
 abbrev pub number_below : ℕ → List ℕ → Option ℕ
 number_below limit field = below limit (decimal_of field)
-
--- a value that was read, if it was right
-unfoldable pub taken : {A : Type 0} → Bool → A → Option A
-taken ok x = cond ok (some x) none
 
 -- ---- calls
 
@@ -82,13 +78,13 @@ not_made = Reads.refuses Refusal.BadArgument
 -- load,SERIAL,KIND,ALGORITHM,DIGITS,PERIOD,LIMIT,KEY,WAIT,EXPIRY
 unfoldable pub particulars_of : List (List ℕ) → ℕ → ℕ → Option Particulars
 particulars_of fields serial expiry =
-    given (number_below (2 ^ 8) (field_of fields 2)) none
-    (λ kind. given (number_below (2 ^ 8) (field_of fields 3)) none
-    (λ algorithm. given (number_below (2 ^ 8) (field_of fields 4)) none
-    (λ digits. given (number_below (2 ^ 8) (field_of fields 5)) none
-    (λ period. given (number_below (2 ^ 8) (field_of fields 6)) none
-    (λ limit. given (number_below (2 ^ 32) (field_of fields 8)) none
-    (λ wait. some
+    given (number_below (2 ^ 8) (field_of fields 2)) None
+    (λ kind. given (number_below (2 ^ 8) (field_of fields 3)) None
+    (λ algorithm. given (number_below (2 ^ 8) (field_of fields 4)) None
+    (λ digits. given (number_below (2 ^ 8) (field_of fields 5)) None
+    (λ period. given (number_below (2 ^ 8) (field_of fields 6)) None
+    (λ limit. given (number_below (2 ^ 32) (field_of fields 8)) None
+    (λ wait. Some
     (record {
       serial = serial;
       scheme = record { kind = kind; algorithm = algorithm; digits = digits };
@@ -127,7 +123,6 @@ call_by Name.Query fields serial clock = Reads.serves (query_call serial clock)
 call_by Name.Unlock fields serial clock = Reads.serves (unlock_call (field_of fields 2) serial clock)
 call_by Name.Resume fields serial clock = Reads.serves (resume_call (field_of fields 2) serial clock)
 call_by Name.Sync fields serial clock = sync_line fields serial clock
-call_by Name.Unknown fields serial clock = not_made
 
 -- SERIAL stands behind the name, and a time at the end
 unfoldable pub fields_read : Name → List (List ℕ) → Reads
@@ -139,7 +134,7 @@ fields_read name fields =
     not_made
 
 abbrev pub call_line : List (List ℕ) → Reads
-call_line fields = fields_read (name_of (field_of fields 0)) fields
+call_line fields = given (name_of (field_of fields 0)) not_made (λ name. fields_read name fields)
 
 -- ---- messages
 
@@ -212,17 +207,5 @@ pub record Printing : Type 0 where
 unfoldable pub line_after : PasswordRule → List ℕ → List ℕ → Printing
 line_after passwords line s = record { text = answer_text (read_after passwords (reads_of line) s).answer; table = (read_after passwords (reads_of line) s).table }
 
--- the text as the function gives it: how many bytes, and the bytes with zeros behind them
-unfoldable pub printed_of : List ℕ → Printed
-printed_of text = record { len = length text; bytes = text ++ replicate (40 - length text) 0 }
-
--- what the function gives and leaves: the text, and the table
-pub record LineLeft : Type 0 where
-  pub printed : Printed
-  pub table : List ℕ
-
-abbrev pub left : Printed → List ℕ → LineLeft
-left printed s = record { printed = printed; table = s }
-
-unfoldable pub line_left : PasswordRule → List ℕ → List ℕ → LineLeft
-line_left passwords line s = left (printed_of (line_after passwords line s).text) (line_after passwords line s).table
+abbrev pub left : List ℕ → List ℕ → Printing
+left text s = record { text = text; table = s }

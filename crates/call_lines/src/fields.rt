@@ -13,10 +13,8 @@ fn start_of(line: &[u8], i: usize) -> usize
     ensures { result ≡ start_after i line.now 0 }
 {
     let mut start = 0;
-    let mut passed = 0;
-    while passed < i {
+    for _passed in 0..i {
         start = field_at(line, start).end + 1;
-        passed += 1;
     }
     start
 }
@@ -38,7 +36,7 @@ pub(crate) fn field(line: &[u8], i: usize) -> &[u8]
 {
     let start = start_of(line, i);
     if line.len() < start {
-        return &line[0..0];
+        return b"";
     }
     let end = field_at(line, start).end;
     &line[start..end]

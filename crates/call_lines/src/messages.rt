@@ -7,9 +7,9 @@ ghost use Rattle.desk.specs.Reads.{read_after};
 ghost use Rattle.call_lines.specs.Line.{message_in, message_line};
 
 use crate::fields::{field, has_fields};
-use crate::reading::{LARGEST, number_at};
+use crate::reading::number_at;
 use message_calls::serve_message;
-use text::{HexRead, hex_into};
+use text::hex_into;
 use token::{Answer, Refusal};
 use window::Seconds;
 
@@ -22,10 +22,8 @@ fn message_in(table: &mut [u8], digits: &[u8], clock: Seconds) -> Answer
     ensures { result_of result table.new ≡ read_after password_at (message_in digits.now clock.0) table.old }
 {
     let mut bytes = [0u8; ROOM];
-    let HexRead::Bytes(n) = hex_into(digits, &mut bytes) else {
-        return Answer::Refused(Refusal::BadArgument);
-    };
-    serve_message(table, &bytes[0..n], clock)
+    let n = hex_into(digits, &mut bytes).ok_or(Refusal::BadArgument)?;
+    serve_message(table, &bytes[..n], clock)
 }
 
 // A line `message,HEX,NOW`.
@@ -33,9 +31,9 @@ pub(crate) fn message_line(table: &mut [u8], line: &[u8]) -> Answer
     requires { length line.now ≤ 4096 }
     ensures { result_of result table.new ≡ read_after password_at (message_line (fields_of line.now)) table.old }
 {
-    let clock = number_at(line, 2, LARGEST);
-    if !(has_fields(line, 3) & clock.ok) {
-        return Answer::Refused(Refusal::BadArgument);
+    if !has_fields(line, 3) {
+        return Err(Refusal::BadArgument);
     }
-    message_in(table, field(line, 1), Seconds(clock.value))
+    let clock = number_at(line, 2).ok_or(Refusal::BadArgument)?;
+    message_in(table, field(line, 1), Seconds(clock))
 }

@@ -1,62 +1,34 @@
 // Numbers that their fields can hold.
-ghost use Rattle.std.specs.Prelude.{◌≡◌, ◌+◌, ◌≤◌, ◌^◌, length};
+ghost use Rattle.std.specs.Prelude.{◌≡◌, ◌≤◌, ◌^◌, length};
 ghost use Rattle.text.specs.Text.{fields_of};
-ghost use Rattle.call_lines.specs.Line.{field_of, number_below, taken};
+ghost use Rattle.call_lines.specs.Line.{field_of, number_below};
 
 use crate::fields::field;
-use text::{Number, decimal};
+use text::decimal;
 
-const LARGEST_BYTE: u64 = 0xff;
-
-pub(crate) const LARGEST_WORD: u64 = 0xffff_ffff;
-
-pub(crate) const LARGEST: u64 = 0xffff_ffff_ffff_ffff;
-
-// A number, where it was right.
-#[derive(Clone, Copy)]
-pub struct Value {
-    pub ok: bool,
-    pub value: u64,
-}
-
-// The same of a byte.
-#[derive(Clone, Copy)]
-pub struct Byte {
-    pub ok: bool,
-    pub value: u8,
-}
-
-// The number in the field i, which holds numbers up to most.
-pub(crate) fn number_at(line: &[u8], i: usize, most: u64) -> Value
+// The number in the field i.
+pub(crate) fn number_at(line: &[u8], i: usize) -> Option<u64>
     requires i_bound { i ≤ 10 }
     requires line_len_bound { length line.now ≤ 4096 }
-    ensures i_value { number_below (most + 1) (field_of (fields_of line.now) i) ≡ taken result.ok result.value }
-    ensures value_le_most { result.value ≤ most }
+    ensures { result ≡ number_below (2 ^ 64) (field_of (fields_of line.now) i) }
 {
-    let Number::Value(x) = decimal(field(line, i)) else {
-        return Value {
-            ok: false,
-            value: 0,
-        };
-    };
-    if x <= most {
-        return Value { ok: true, value: x };
-    }
-    Value {
-        ok: false,
-        value: 0,
-    }
+    decimal(field(line, i))
+}
+
+// The number in the field i, which holds a word.
+pub(crate) fn word_at(line: &[u8], i: usize) -> Option<u32>
+    requires i_bound { i ≤ 10 }
+    requires line_len_bound { length line.now ≤ 4096 }
+    ensures { result ≡ number_below (2 ^ 32) (field_of (fields_of line.now) i) }
+{
+    u32::try_from(number_at(line, i)?).ok()
 }
 
 // The number in the field i, which holds a byte.
-pub(crate) fn byte_at(line: &[u8], i: usize) -> Byte
+pub(crate) fn byte_at(line: &[u8], i: usize) -> Option<u8>
     requires i_bound { i ≤ 10 }
     requires line_len_bound { length line.now ≤ 4096 }
-    ensures { number_below (2 ^ 8) (field_of (fields_of line.now) i) ≡ taken result.ok result.value }
+    ensures { result ≡ number_below (2 ^ 8) (field_of (fields_of line.now) i) }
 {
-    let read = number_at(line, i, LARGEST_BYTE);
-    Byte {
-        ok: read.ok,
-        value: read.value as u8,
-    }
+    u8::try_from(number_at(line, i)?).ok()
 }

@@ -5,7 +5,7 @@ use Rattle.std.specs.Io.KnownBytes.{Consumes, IsAtEnd}
 use Rattle.words.specs.BoolLaws.{or_left, or_right, by-test}
 use Rattle.row.specs.Row.{row_bytes}
 use Rattle.script.specs.Sizes.{table_bytes}
-use Rattle.desk_lines.specs.File.{file_table}
+use Rattle.desk_lines.specs.File.{file_table, rows_stage, file_stage}
 
 table_all : (bytes : List ℕ) → leb (length bytes) table_bytes ≡ true → eqb (length bytes % row_bytes) 0 ≡ true → file_table bytes ≡ bytes
 unfolding file_table
@@ -101,15 +101,16 @@ module _ (xs ys zs : List ℕ) {table : List ℕ} {len got : ℕ} (f : FileRead 
       rw whole (sym (ends z) ∙ sym (table_all xs few (rw (size z) even)))
 
 pub no_table : (known rest after : Option (List ℕ)) {table : List ℕ} {len got : ℕ} → FileRead known rest after table len got
-    → ltb 0 got || not (eqb (len % row_bytes) 0) ≡ true → IfSome known (λ xs. [] ≡ file_table xs)
+    → ltb 0 got || not (eqb (len % row_bytes) 0) ≡ true → IfSome known (λ xs. rows_stage [] ≡ file_stage xs)
 no_table None rest after f e = tt
 no_table (Some xs) None after f e = absurd f.taken
 no_table (Some xs) (Some ys) None f e = absurd f.behind
-no_table (Some xs) (Some ys) (Some zs) f e = refused xs ys zs f e
+no_table (Some xs) (Some ys) (Some zs) f e = ap rows_stage (refused xs ys zs f e)
 
 pub table_read : (known rest after : Option (List ℕ)) {table : List ℕ} {len got : ℕ} → FileRead known rest after table len got
-    → ltb 0 got || not (eqb (len % row_bytes) 0) ≡ false → IfSome known (λ xs. take (row_bytes * (len / row_bytes)) table ≡ file_table xs)
+    → ltb 0 got || not (eqb (len % row_bytes) 0) ≡ false
+    → IfSome known (λ xs. rows_stage (take (row_bytes * (len / row_bytes)) table) ≡ file_stage xs)
 table_read None rest after f e = tt
 table_read (Some xs) None after f e = absurd f.taken
 table_read (Some xs) (Some ys) None f e = absurd f.behind
-table_read (Some xs) (Some ys) (Some zs) f e = accepted xs ys zs f e
+table_read (Some xs) (Some ys) (Some zs) f e = ap rows_stage (accepted xs ys zs f e)

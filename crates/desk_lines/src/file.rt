@@ -4,17 +4,15 @@ ghost use Rattle.std.specs.Prelude.{◌≡◌, false, ◌+◌, ◌*◌, ◌≤�
 ghost use Rattle.std.specs.Io.KnownBytes.{Consumes, IsAtEnd};
 ghost use Rattle.std.specs.Str.{IsCharBoundary};
 ghost use Rattle.window.specs.PasswordAt.{password_at};
-ghost use Rattle.row.specs.Row.{row_bytes};
-ghost use Rattle.script.specs.Sizes.{table_bytes};
-ghost use Rattle.script.specs.Script.{stage_in};
+ghost use Rattle.script.specs.Script.{stage_of};
 ghost use Rattle.desk_lines.specs.Input.{ServesInput, ServesAll};
-ghost use Rattle.desk_lines.specs.File.{IsBeside, file_table};
+ghost use Rattle.desk_lines.specs.File.{IsBeside, file_stage};
 
 use crate::arguments::{PATH_MAX, argument};
-use crate::input::{Done, serve_input};
+use crate::input::serve_input;
 use arrayvec::ArrayString;
 use row::ROW_BYTES;
-use script::serving::Stage;
+use script::state::{Stage, Table};
 use std::env::Env;
 use std::fs::{Files, OpenFile, OpenOptions};
 use std::io::{Error, ErrorKind, Read, Seek, Write};
@@ -25,28 +23,29 @@ use std::{fs, io, str};
 // A path, and behind it the letters that make it the name of a new file.
 const NAME: usize = PATH_MAX + 7;
 
-// Reads the table in a file, and answers how many rows it has.
-fn load<R: Files>(rt: &R, path: &str, table: &mut [u8]) -> io::Result<usize>
-    requires { length table.old ≡ table_bytes }
-    ensures { IfOk result (λ rows. rows ≤ 256) }
-{
+// Reads the table in a file.
+fn load<R: Files>(rt: &R, path: &str, table: &mut Table) -> io::Result<()> {
     let mut file = fs::open(rt, path)?;
     read_table(&mut file, table)
 }
 
-// Reads the table, and answers how many rows it has: none if the file has no right length.
-fn read_table<F: Read>(file: &mut F, table: &mut [u8]) -> io::Result<usize>
-    requires { length table.old ≡ table_bytes }
-    ensures upper_bound { IfOk result (λ rows. rows ≤ 256) }
-    ensures value { IfOk result (λ rows. IfSome (F.remaining file.old) (λ xs. take (row_bytes * rows) table.new ≡ file_table xs)) }
+// Reads the table: it has no rows if the file has no right length.
+fn read_table<F: Read>(file: &mut F, table: &mut Table) -> io::Result<()>
+    ensures { OnOk result (IfSome (F.remaining file.old) (λ xs. stage_of table.new ≡ file_stage xs)) }
 {
-    let len = read_full(file, table)?;
+    let len = read_full(file, &mut table.bytes)?;
     let mut more = [0u8; 1];
     let got = file.read(&mut more)?;
+    table.stage = Stage {
+        fresh: false,
+        rows: 0,
+    };
     if (0 < got) | (len % ROW_BYTES != 0) {
-        return Ok(0);
+        return Ok(());
     }
-    Ok(len / ROW_BYTES)
+    let rows = len / ROW_BYTES;
+    table.stage = Stage { fresh: false, rows };
+    Ok(())
 }
 
 // Reads until the table is full or the file ends, and answers how many bytes that are.
@@ -151,15 +150,10 @@ fn folder_length(path: &str) -> usize
     ensures upper_bound { result ≤ length path.now }
     ensures boundary { IsCharBoundary path.now result }
 {
-    let bytes = path.as_bytes();
-    let mut n = bytes.len();
-    while 0 < n {
-        if bytes[n - 1] == b'/' {
-            break;
-        }
-        n -= 1;
+    match path.rfind('/') {
+        Some(slash) => slash + 1,
+        None => 0,
     }
-    n
 }
 
 // Waits until the folder's new entry is on disk.
@@ -202,28 +196,20 @@ fn serve_file<R: Files + RandomSource, I: Read>(
     rt: &R,
     input: &mut I,
     path: &str,
-    table: &mut [u8],
-    rows: usize,
+    table: &mut Table,
     answers: &mut R::File,
-) -> Done
-    requires path_len_bound { length path.now ≤ 4096 }
-    requires table_len { length table.old ≡ table_bytes }
-    requires rows_bound { rows ≤ 256 }
-    ensures serves_input { ServesInput password_at (is_ok result.outcome) (stage_in false rows table.old) (stage_in result.fresh result.rows table.new) }
-    ensures serves_all { OnOk result.outcome (ServesAll password_at (I.remaining input.old) (R.File.contents answers.old) (R.File.contents answers.new) (stage_in false rows table.old) (stage_in result.fresh result.rows table.new)) }
+) -> io::Result<()>
+    requires { length path.now ≤ 4096 }
+    ensures serves_input { ServesInput password_at (is_ok result) (stage_of table.old) (stage_of table.new) }
+    ensures serves_all { OnOk result (ServesAll password_at (I.remaining input.old) (R.File.contents answers.old) (R.File.contents answers.new) (stage_of table.old) (stage_of table.new)) }
 {
-    let stage = Stage { fresh: false, rows };
-    let served = serve_input(input, answers, table, stage);
+    serve_input(input, answers, table)?;
+    let rows = table.stage.rows;
     // A file that is no table stays as it is.
-    if served.outcome.is_err() | (served.rows == 0) {
-        return served;
+    if rows == 0 {
+        return Ok(());
     }
-    let size = ROW_BYTES * served.rows;
-    Done {
-        outcome: replace(rt, path, &table[0..size]),
-        fresh: served.fresh,
-        rows: served.rows,
-    }
+    replace(rt, path, &table.bytes[..ROW_BYTES * rows])
 }
 
 // Prints the answers that were kept aside.
@@ -245,14 +231,13 @@ fn serve_saved<R: Files + RandomSource, I: Read>(
     rt: &R,
     input: &mut I,
     path: &str,
-    table: &mut [u8],
+    table: &mut Table,
 ) -> io::Result<R::File>
-    requires path_len_bound { length path.now ≤ 4096 }
-    requires table_len { length table.old ≡ table_bytes }
+    requires { length path.now ≤ 4096 }
 {
     let mut answers = open_answers(rt, path)?;
-    let rows = load(rt, path, table)?;
-    serve_file(rt, input, path, table, rows, &mut answers).outcome?;
+    load(rt, path, table)?;
+    serve_file(rt, input, path, table, &mut answers)?;
     Ok(answers)
 }
 
@@ -261,10 +246,8 @@ pub(crate) fn serve_argument<R: Files + Env + RandomSource + Eprint, I: Read, W:
     rt: &R,
     input: &mut I,
     output: &mut W,
-    table: &mut [u8],
-) -> io::Result<()>
-    requires { length table.old ≡ table_bytes }
-{
+    table: &mut Table,
+) -> io::Result<()> {
     let mut name = [0u8; PATH_MAX];
     let n = argument(rt, 1, &mut name).unwrap_or(0);
     let Ok(path) = str::from_utf8(&name[0..n]) else {

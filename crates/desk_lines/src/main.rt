@@ -9,6 +9,7 @@ use arguments::argument;
 use file::serve_argument;
 use input::serve_own_table;
 use script::sizes::TABLE;
+use script::state::{Stage, Table};
 use std::io;
 
 fn main(rt: HostRuntime) -> io::Result<()> {
@@ -18,11 +19,17 @@ fn main(rt: HostRuntime) -> io::Result<()> {
     }
     let mut input = rt.stdin();
     let mut output = rt.stdout();
-    let mut table = [0u8; TABLE];
+    let mut table = Table {
+        bytes: [0; TABLE],
+        stage: Stage {
+            fresh: true,
+            rows: 0,
+        },
+    };
     if argument(&rt, 1, &mut none).is_some() {
         return serve_argument(&rt, &mut input, &mut output, &mut table);
     }
-    match serve_own_table(&mut input, &mut output, &mut table).outcome {
+    match serve_own_table(&mut input, &mut output, &mut table) {
         Ok(()) => Ok(()),
         Err(error) => eprintln!(rt; "desk_lines: {error}"),
     }

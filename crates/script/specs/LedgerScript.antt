@@ -1,8 +1,7 @@
 -- What a script prints is the ledger machine's: its answers to the script's calls and, for a line `table`, its table. This page has the statement;
 -- `LedgerScriptLaws` has the proof.
 use Rattle.token.specs.Answers.{Answer}
-use Rattle.std.specs.Prelude.{ℕ, ◌≡◌, cond, List, [], ◌∷◌, ◌++◌, Err}
-use Rattle.std.proofs.Math.Option.{some}
+use Rattle.std.specs.Prelude.{ℕ, ◌≡◌, cond, List, [], ◌∷◌, ◌++◌, Err, Some}
 use Rattle.lines.specs.Lines.{line_feed, lines_of}
 use Rattle.window.specs.PasswordAt.{PasswordRule}
 use Rattle.desk.specs.Reads.{Reads}
@@ -31,5 +30,5 @@ ledger_text passwords rows history (line ∷ lines) =
 -- every input whose first line is a right `rows` line
 abbrev pub ScriptIsLedger : Type 0
 ScriptIsLedger =
-    (passwords : PasswordRule) (input first : List ℕ) (lines : List (List ℕ)) (rows : ℕ) → lines_of input ≡ first ∷ lines → rows_of first ≡ some rows
+    (passwords : PasswordRule) (input first : List ℕ) (lines : List (List ℕ)) (rows : ℕ) → lines_of input ≡ first ∷ lines → rows_of first ≡ Some rows
     → output_of passwords input ≡ ledger_text passwords rows [] lines

@@ -1,18 +1,16 @@
 -- The proof that a script prints what the ledger machine answers: line by line, from the third demand's law of one call.
-use Rattle.std.specs.Prelude.{ℕ, ◌≤◌, ◌≡◌, Bool, true, false, ◌&&◌, leb, length, take, drop}
+use Rattle.std.specs.Prelude.{ℕ, ◌≤◌, ◌≡◌, false, Some}
 use Rattle.std.proofs.Math.Path.{refl}
-use Rattle.std.proofs.Common.{ap, ◌∙◌, arith, leb-true}
+use Rattle.std.proofs.Common.{ap, ◌∙◌}
 use mathlib.Core.List.{List, [], ◌∷◌}
-use Rattle.std.proofs.Math.Option.{Option, none, some}
-use Rattle.words.specs.Lists.{same_bytes}
-use Rattle.words.specs.BoolLaws.{by-test, impossible}
-use Rattle.text.specs.Text.{comma, decimal_of}
+use Rattle.words.specs.BoolLaws.{by-test}
 use Rattle.window.specs.PasswordAt.{PasswordRule}
 use Rattle.desk.specs.Reads.{Reads, read_after}
 use Rattle.ledger.specs.Ledger.{Entry, table_of}
 use Rattle.ledger.proofs.Demand3Laws.{Faithful, start_faithful, start-table, call_step, faithful_step}
 use Rattle.call_lines.specs.Line.{reads_of, line_after}
-use Rattle.script.specs.Script.{few_rows, rows_of, is_table, serves, later_line, served, served_all, start, output_of}
+use Rattle.script.specs.Script.{rows_of, is_table, serves, later_line, served, served_all, start, output_of}
+use Rattle.script.specs.RowsLaws.{rows_bounds}
 use Rattle.script.specs.LedgerScript.{ledger_answer, ledger_history, ledger_text, ScriptIsLedger}
 
 -- ---- line by line
@@ -42,26 +40,7 @@ module _ (passwords : PasswordRule) (rows : ℕ) (some-rows : 1 ≤ rows) (few :
 
 -- ---- the first line
 
-few-rows : (d : Option ℕ) {n : ℕ} → few_rows d ≡ some n → (1 ≤ n) × (n ≤ 256)
-few-rows none e = impossible (cc)
-few-rows (some k) {n} e =
-    by-test (leb 1 k && leb k 256)
-    (λ t. let same : some k ≡ some n = rw t at e in let s : k ≡ n = cc in let b = both (leb 1 k) (leb k 256) t in
-    let l = leb-true 1 k b.0 in let m = leb-true k 256 b.1 in (omega arith, omega arith))
-    (λ f. let h : none ≡ some n = rw f at e in impossible (cc))
-  where
-    both : (a b : Bool) → a && b ≡ true → (a ≡ true) × (b ≡ true)
-    both true b e = (refl, e)
-    both false b e = impossible (cc)
-
-rows_bounds : (line : List ℕ) {n : ℕ} → rows_of line ≡ some n → (1 ≤ n) × (n ≤ 256)
-unfolding rows_of
-rows_bounds line {n} e =
-    by-test (leb (length line) 4096 && same_bytes (take 5 line) (0x72 ∷ 0x6f ∷ 0x77 ∷ 0x73 ∷ comma ∷ []))
-    (λ t. few-rows (decimal_of (drop 5 line)) (rw t at e))
-    (λ f. let h : none ≡ some n = rw f at e in impossible (cc))
-
-first-served : (passwords : PasswordRule) (first : List ℕ) (rows : ℕ) → rows_of first ≡ some rows → served passwords first start ≡ serves [] (table_of passwords rows [])
+first-served : (passwords : PasswordRule) (first : List ℕ) (rows : ℕ) → rows_of first ≡ Some rows → served passwords first start ≡ serves [] (table_of passwords rows [])
 unfolding served
 first-served passwords first rows right = rw (right, start-table passwords rows)
 

@@ -1,61 +1,38 @@
 -- What the functions on lines and pieces return, over what the functions that they call ensure.
-use Rattle.std.specs.Prelude.{ℕ, zero, suc, ◌+◌, ◌-◌, ◌*◌, ◌/◌, ◌≤◌, ◌<◌, ◌≡◌, Bool, ◌&&◌, cond, leb, take, drop, set, replicate}
+use Rattle.std.specs.Prelude.{ℕ, ◌+◌, ◌*◌, ◌/◌, ◌≤◌, ◌<◌, ◌≡◌, Bool, cond, take, drop, set, replicate}
 use Rattle.std.proofs.Math.Path.{refl, sym, ap}
-use Rattle.std.proofs.Common.{◌∙◌, le-leb, length-append, length-take-le, take_at}
+use Rattle.std.proofs.Common.{◌∙◌, length-take-le, take_at}
 use Rattle.std.proofs.Math.Bool.{true, false}
 use mathlib.Core.List.{List, [], ◌∷◌, ◌++◌, append-nil}
-use Rattle.std.proofs.Math.Option.{Option, none, some}
+use Rattle.std.specs.Prelude.{Option, None, Some}
 use native.Mathlib.Omega.{arith}
 use Rattle.std.proofs.lemmas.Bool.{lt-leb}
 use Rattle.std.proofs.Math.ListN.{length}
 use Rattle.std.proofs.lemmas.List.{length-replicate}
-use Rattle.std.proofs.Math.Seq.{take-append_seam, take-length}
-use Rattle.words.specs.Lists.{same_bytes}
+use Rattle.std.proofs.Math.Seq.{take-length}
 use Rattle.words.specs.ListsLaws.{same_lengths}
-use Rattle.words.specs.BoolLaws.{by-test, and_false, either}
-use Rattle.text.specs.Text.{decimal_of}
+use Rattle.words.specs.BoolLaws.{by-test, either}
 use Rattle.lines.specs.Lines.{line_feed, cut, last, Held, Put}
 use Rattle.lines.specs.LinesLaws.{cut_line, cut-rest}
 use Rattle.lines.specs.BufferLaws.{held_nothing, held_none, held-some}
 use Rattle.words.specs.Search.{index_of, slice}
 use Rattle.window.specs.PasswordAt.{PasswordRule}
 use Rattle.row.specs.Row.{row_bytes}
-use Rattle.call_lines.specs.Line.{line_after, printed_of, LineLeft, left, line_left}
-use Rattle.call_lines.specs.declared.Printed.{Printed}
+use Rattle.call_lines.specs.Line.{line_after, Printing, left}
 use Rattle.call_lines.specs.LineLaws.{not_made_lem, line-long}
-use Rattle.script.specs.Script.{rows_text, few_rows, rows_of, is_table, Stage, Served, serves, later_line, first_line, served, or_zero, stage_in, Serves, Follows}
+use Rattle.script.specs.Script.{rows_text, rows_of, is_table, Stage, Served, serves, later_line, first_line, served, stage_in, Serves, Follows}
 use Rattle.script.specs.ScriptLaws.{serves-one, serves-none}
-use Rattle.script.specs.RowsLaws.{rows_word, line-put}
+use Rattle.script.specs.RowsLaws.{line-put}
 
 -- ---- a line's answer
 
-module _ (passwords : PasswordRule) (line s : List ℕ) {r : Printed} {after : List ℕ} (answered : left r after ≡ line_left passwords line s) where
-  abbrev text : List ℕ
-  text = (line_after passwords line s).text
-
-  printed : r ≡ printed_of text
-  unfolding line_left
-  printed = ap (λ (l : LineLeft). l.printed) answered
-
-  text-is : take (r.len - 0) (drop 0 r.bytes) ≡ text
-  unfolding printed_of
-  text-is = let z : length text - 0 ≡ length text = omega arith in rw (printed, z) (take-append_seam text (replicate (40 - length text) 0))
-
-  pub text-within : r.len ≤ length r.bytes
-  unfolding printed_of
-  text-within = rw (printed, length-append) (omega arith)
-
+module _ (passwords : PasswordRule) (line s : List ℕ) {text after : List ℕ} (answered : left text after ≡ line_after passwords line s) where
   pub answer-left : after ≡ (line_after passwords line s).table
-  unfolding line_left
-  answer-left = ap (λ (l : LineLeft). l.table) answered
+  answer-left = ap (λ (l : Printing). l.table) answered
 
-  module _ {out : List ℕ} {at : ℕ} {out' : List ℕ} {end : ℕ} (put : Put out at (take (r.len - 0) (drop 0 r.bytes)) out' end) where
-    pub answer-end : end ≡ at + r.len
-    unfolding printed_of
-    answer-end = rw text-is at put.place ∙ rw printed
-
-    pub answer-put : end < length out' → Put out at (text ++ (line_feed ∷ [])) (set out' end line_feed) (end + 1)
-    answer-put l = line-put (rw text-is at put) l
+  pub answer-put : {out out' : List ℕ} {at end : ℕ} → Put out at text out' end → end < length out'
+      → Put out at ((line_after passwords line s).text ++ (line_feed ∷ [])) (set out' end line_feed) (end + 1)
+  answer-put put l = rw (← answered) (line-put put l)
 
 -- ---- a line that is not the first, or no `rows` line
 
@@ -87,72 +64,38 @@ module _ (passwords : PasswordRule) (line s : List ℕ) where
 
 -- ---- a line
 
-pub asked-first : (line : List ℕ) {fresh : Bool} {r : ℕ} → r ≡ or_zero (rows_of line) → fresh ≡ true → r ≡ cond fresh (or_zero (rows_of line)) 0
-asked-first line e t = rw t e
-
-few_positive : (d : Option ℕ) → or_zero (few_rows d) ≡ 0 → few_rows d ≡ none
-few_positive none e = refl
-few_positive (some zero) e = refl
-few_positive (some (suc n)) e =
-    by-test (leb (suc n) 256)
-    (λ t. let z : suc n ≡ 0 = rw (le-leb 1 (suc n) (omega arith), t) at e in absurd (omega arith))
-    (λ f. rw (f, and_false (leb 1 (suc n))))
-
-rows_positive : (line : List ℕ) → or_zero (rows_of line) ≡ 0 → rows_of line ≡ none
-unfolding rows_of
-rows_positive line e =
-    by-test (leb (length line) 4096 && same_bytes (take 5 line) rows_word)
-    (λ t. let f : or_zero (few_rows (decimal_of (drop 5 line))) ≡ 0 = rw t at e in rw (t, few_positive (decimal_of (drop 5 line)) f))
-    (λ f. rw f)
-
-module _ (passwords : PasswordRule) (fresh : Bool) (rows : ℕ) (line table : List ℕ) {asked : ℕ} (ask : asked ≡ cond fresh (or_zero (rows_of line)) 0) where
-  first_rows : (o : Option ℕ) (s : List ℕ) → 0 < or_zero o → first_line passwords o line s ≡ serves [] (replicate (row_bytes * or_zero o) 0)
-  first_rows none s l = absurd (omega arith)
-  first_rows (some n) s l = refl
-
-  served-rows : 0 < asked → served passwords line (stage_in fresh rows table) ≡ serves [] (replicate (row_bytes * asked) 0)
+module _ (passwords : PasswordRule) (fresh : Bool) (rows : ℕ) (line table : List ℕ) {asked : Option ℕ} (ask : asked ≡ cond fresh (rows_of line) None) where
+  served-by : served passwords line (stage_in fresh rows table) ≡ first_line passwords asked line (take (row_bytes * rows) table)
   unfolding served
-  served-rows l =
+  served-by =
       by-test fresh
-      (λ t. let e : asked ≡ or_zero (rows_of line) = rw t at ask in rw (t, e) (first_rows (rows_of line) (take (row_bytes * rows) table) (rw e at l)))
-      (λ f. let e : asked ≡ 0 = rw f at ask in absurd (omega arith))
+      (λ t. let e : asked ≡ rows_of line = rw t at ask in rw (t, e))
+      (λ f. let e : asked ≡ None = rw f at ask in rw (f, e))
 
-  served-later : asked ≤ 0 → served passwords line (stage_in fresh rows table) ≡ later_line passwords line (take (row_bytes * rows) table)
-  unfolding served
-  served-later l =
-      by-test fresh
-      (λ t. let e : asked ≡ or_zero (rows_of line) = rw t at ask in rw (t, rows_positive line (omega arith)))
-      (λ f. rw f)
-
-  -- the front of a buffer, which has become a part as long
-  front-is : {part : List ℕ} (n : ℕ) → length part ≡ n → take n ([] ++ (part ++ drop (n - 0) (drop 0 table))) ≡ part
-  front-is {part} n l = take_at part (drop (n - 0) (drop 0 table)) n l
-
-  pub rows_made : (out : List ℕ) (at : ℕ) {part : List ℕ} → 0 < asked → row_bytes * asked ≤ length table
-      → part ≡ replicate (length (take (row_bytes * asked - 0) (drop 0 table))) 0
-      → Serves passwords (line ∷ []) (stage_in fresh rows table) (stage_in false asked ([] ++ (part ++ drop (row_bytes * asked - 0) (drop 0 table)))) out at out at
-  rows_made out at {part} l room e =
-      let z : row_bytes * asked - 0 ≡ row_bytes * asked = omega arith in
-      let size : length (take (row_bytes * asked - 0) (drop 0 table)) ≡ row_bytes * asked = rw z (length-take-le (row_bytes * asked) table room) in
-      let zeros : part ≡ replicate (row_bytes * asked) 0 = rw size at e in
-      let long : length part ≡ row_bytes * asked = ap length zeros ∙ length-replicate (row_bytes * asked) 0 in
+  pub rows_made : (out : List ℕ) (at : ℕ) {n : ℕ} {part : List ℕ} → asked ≡ Some n → row_bytes * n ≤ length table
+      → part ≡ replicate (length (take (row_bytes * n) table)) 0
+      → Serves passwords (line ∷ []) (stage_in fresh rows table) (stage_in false n (part ++ drop (row_bytes * n) table)) out at out at
+  rows_made out at {n} {part} e room cleared =
+      let zeros : part ≡ replicate (row_bytes * n) 0 = rw (length-take-le (row_bytes * n) table room) at cleared in
+      let long : length part ≡ row_bytes * n = ap length zeros ∙ length-replicate (row_bytes * n) 0 in
+      let first : served passwords line (stage_in fresh rows table) ≡ serves [] (replicate (row_bytes * n) 0) = rw (served-by, e) in
       serves-one passwords
-      (rw (served-rows l) (record { place = omega arith; front = rw (append-nil (take at out)) }))
-      (rw (served-rows l, front-is (row_bytes * asked) long, zeros))
+      (rw first (record { place = omega arith; front = rw (append-nil (take at out)) }))
+      (rw (first, take_at part (drop (row_bytes * n) table) (row_bytes * n) long, zeros))
 
   abbrev later : List ℕ → Stage
   later t = record { fresh = false; table = t }
 
-  pub line_made : {out out' part : List ℕ} {at end : ℕ} → asked ≤ 0 → row_bytes * rows ≤ length table → length part ≡ length (take (row_bytes * rows - 0) (drop 0 table))
-      → Put out at (later_line passwords line (take (row_bytes * rows - 0) (drop 0 table))).text out' end
-      → part ≡ (later_line passwords line (take (row_bytes * rows - 0) (drop 0 table))).stage.table
-      → Serves passwords (line ∷ []) (stage_in fresh rows table) (stage_in false rows ([] ++ (part ++ drop (row_bytes * rows - 0) (drop 0 table)))) out at out' end
-  line_made {part = part} l room kept put left =
-      let z : row_bytes * rows - 0 ≡ row_bytes * rows = omega arith in
-      let long : length part ≡ row_bytes * rows = kept ∙ rw z (length-take-le (row_bytes * rows) table room) in
+  pub line_made : {out out' part : List ℕ} {at end : ℕ} → asked ≡ None → row_bytes * rows ≤ length table → length part ≡ length (take (row_bytes * rows) table)
+      → Put out at (later_line passwords line (take (row_bytes * rows) table)).text out' end
+      → part ≡ (later_line passwords line (take (row_bytes * rows) table)).stage.table
+      → Serves passwords (line ∷ []) (stage_in fresh rows table) (stage_in false rows (part ++ drop (row_bytes * rows) table)) out at out' end
+  line_made {part = part} e room kept put left =
+      let long : length part ≡ row_bytes * rows = kept ∙ length-take-le (row_bytes * rows) table room in
+      let unasked : served passwords line (stage_in fresh rows table) ≡ later_line passwords line (take (row_bytes * rows) table) = rw (served-by, e) in
       serves-one passwords
-      (rw (served-later l) (rw z at put))
-      (rw (served-later l, later-stage passwords line (take (row_bytes * rows) table), front-is (row_bytes * rows) long) (ap (λ (t : List ℕ). later t) (rw z at left)))
+      (rw unasked put)
+      (rw (unasked, later-stage passwords line (take (row_bytes * rows) table), take_at part (drop (row_bytes * rows) table) (row_bytes * rows) long) (ap (λ (t : List ℕ). later t) left))
 
 -- ---- the pending line
 
@@ -173,13 +116,13 @@ module _ (passwords : PasswordRule) (line : List ℕ) (n : ℕ) (size : length l
       serves-one passwords (rw (long-served (stage_in fresh rows table) l) put) (rw (long-served (stage_in fresh rows table) l))
 
   pub pending-short : {stage after : Stage} {out out' : List ℕ} {at end : ℕ} → n ≤ 4096
-      → Serves passwords (take (n - 0) (drop 0 line) ∷ []) stage after out at out' end → Serves passwords (p ∷ []) stage after out at out' end
-  pending-short l f = let z : n - 0 ≡ n = omega arith in rw (held.short (omega (arith, size))) (rw z at f)
+      → Serves passwords (take n line ∷ []) stage after out at out' end → Serves passwords (p ∷ []) stage after out at out' end
+  pending-short l f = rw (held.short (omega (arith, size))) f
 
 -- ---- a piece of the input
 
 module _ (passwords : PasswordRule) (line : List ℕ) (n : ℕ) (piece : List ℕ) {found : ℕ} (index : found ≡ 0 + index_of line_feed (slice 0 (length piece) piece))
-    {line' : List ℕ} {m : ℕ} (longer : (p : List ℕ) → Held line n p → Held line' m (p ++ take (found - 0) (drop 0 piece))) where
+    {line' : List ℕ} {m : ℕ} (longer : (p : List ℕ) → Held line n p → Held line' m (p ++ take found piece)) where
   index_is : found ≡ index_of line_feed piece
   unfolding slice
   index_is = let e : found ≡ 0 + index_of line_feed piece = rw take-length at index in omega arith
@@ -187,11 +130,10 @@ module _ (passwords : PasswordRule) (line : List ℕ) (n : ℕ) (piece : List �
   pub piece_pending : (stage : Stage) (out : List ℕ) (at : ℕ) → found ≡ length piece
       → Follows passwords line n (take found piece) line' m stage stage out at out at
   piece_pending stage out at e =
-      let z : found - 0 ≡ length piece = omega arith in
       let all : take found piece ≡ piece = rw (e, take-length) in
       let over : (p : List ℕ) → cut p piece ≡ record { whole = []; pending = p ++ piece } = λ p. cut-rest p piece (sym index_is ∙ e) in
       record {
-        pending = λ p h. rw (all, over p) (rw (z, take-length) at (longer p h));
+        pending = λ p h. rw (all, over p) (rw all at (longer p h));
         serving = λ p h. rw (all, over p) (serves-none passwords stage out at);
       }
 
@@ -199,12 +141,11 @@ module _ (passwords : PasswordRule) (line : List ℕ) (n : ℕ) (piece : List �
       → ((p : List ℕ) → Held line' m p → Serves passwords (p ∷ []) stage after out at out' end)
       → Follows passwords line n (take (found + 1) piece) line' 0 stage after out at out' end
   piece_line l answer =
-      let z : found - 0 ≡ found = omega arith in
       let i = index_is in
       let up : (p : List ℕ) → cut p (take (found + 1) piece) ≡ record { whole = (p ++ take found piece) ∷ []; pending = [] } = λ p. rw i (cut_line p piece (rw i at l)) in
       record {
         pending = λ p h. rw (up p) (held_nothing line');
-        serving = λ p h. rw (up p) (rw z at (answer (p ++ take (found - 0) (drop 0 piece)) (longer p h)));
+        serving = λ p h. rw (up p) (answer (p ++ take found piece) (longer p h));
       }
 
 -- ---- the end of the input

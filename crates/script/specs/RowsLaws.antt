@@ -1,82 +1,78 @@
 -- What the functions on `rows` and `table` lines return, over what the functions that they call ensure.
 use Prim.Native.Nat.{ℕ, zero, suc, ◌+◌, ◌-◌, ◌*◌, ◌/◌, ◌%◌, ◌^◌, ◌≤◌, ◌<◌}
-use Rattle.std.specs.Prelude.{◌≡◌, refl, Bool, ltb, leb, length, drop, set}
+use Rattle.std.specs.Prelude.{◌≡◌, refl, Bool, ◌&&◌, eqb, ltb, leb, length, drop, set, Option, None, Some}
+use Rattle.std.specs.Bool.{then_some}
+use Rattle.std.specs.Cmp.Lexicographic.{pointwise}
 use Rattle.std.proofs.Math.Path.{sym}
-use Rattle.std.proofs.Common.{◌∙◌, le-leb, ltb-false, length-append, length-drop, length-take-le, take_all, take-suc, drop-drop}
-use Rattle.std.proofs.Math.Bool.{true, false, not, cond}
+use Rattle.std.proofs.Common.{◌∙◌, le-leb, leb-true, ltb-false, length-append, length-drop, length-take-le, take_all, take-suc, drop-drop}
+use Rattle.std.proofs.Math.Bool.{true, false, cond}
 use mathlib.Core.List.{List, [], ◌∷◌, ◌++◌, append_assoc, append-nil}
-use Rattle.std.proofs.Math.Option.{Option, none, some}
 use Rattle.std.proofs.Math.Numerals.{add-one}
 use native.Mathlib.Omega.{arith}
 use Rattle.std.proofs.lemmas.Bool.{lt-leb}
-use Rattle.std.proofs.Math.ListN.{take, get_or, length-take, length-set}
+use Rattle.std.proofs.Math.ListN.{take, get_or, length-set}
 use Rattle.std.proofs.Math.Seq.{take-suc-set}
 use Rattle.words.specs.Lists.{same_bytes}
-use Rattle.words.specs.ListsLaws.{same_lengths}
-use Rattle.words.specs.BoolLaws.{by-test, and_true, and_false, impossible}
+use Rattle.words.specs.BoolLaws.{by-test, and_false, impossible}
 use Rattle.text.specs.Text.{hex_digit, comma, decimal_of, bounded, number_in}
-use Rattle.text.specs.declared.numbers.Number.{Number}
-use Rattle.text.specs.TextLaws.{number-value}
 use Rattle.lines.specs.Lines.{line_feed, Put}
 use Rattle.lines.specs.BufferLaws.{put_join}
 use Rattle.row.specs.Row.{row_bytes}
 use Rattle.script.specs.Sizes.{row_text}
-use Rattle.script.specs.Script.{hex_text, rows_text, few_rows, rows_of, or_zero}
+use Rattle.script.specs.Script.{hex_text, rows_text, few_rows, rows_of}
 
 -- ---- the line `rows,N`
 
 abbrev pub rows_word : List ℕ
 rows_word = 0x72 ∷ 0x6f ∷ 0x77 ∷ 0x73 ∷ comma ∷ []
 
-unread_rows : (d : Option ℕ) → bounded d ≡ Number.Bad → 0 ≡ or_zero (few_rows d)
+same-pointwise : (a b : List ℕ) → pointwise eqb a b ≡ same_bytes a b
+unfolding same_bytes
+same-pointwise [] [] = refl
+same-pointwise [] (y ∷ b) = refl
+same-pointwise (x ∷ a) [] = refl
+same-pointwise (x ∷ a) (y ∷ b) = rw (same-pointwise a b)
+
+-- a number of so few rows has 64 bits
+few-bounded : (d : Option ℕ) → few_rows (bounded d) ≡ few_rows d
 unfolding bounded
-unread_rows none e = refl
-unread_rows (some n) e =
+few-bounded None = refl
+few-bounded (Some n) =
     by-test (ltb n (2 ^ 64))
-    (λ t. let h : Number.Value n ≡ Number.Bad = rw t at e in impossible (cc))
-    (λ f. let l = ltb-false n (2 ^ 64) f in rw (lt-leb n 256 (omega arith), and_false (leb 1 n)))
+    (λ t. rw t)
+    (λ f. let l = ltb-false n (2 ^ 64) f in rw (f, lt-leb n 256 (omega arith), and_false (leb 1 n)))
+
+pub some-tested : (b : Bool) (n : ℕ) → then_some b n ≡ cond b (Some n) None
+some-tested true n = refl
+some-tested false n = refl
 
 module _ (line : List ℕ) (fits : length line ≤ 4096) where
-  pub rows_short : length line < 5 → 0 ≡ or_zero (rows_of line)
+  pub rows-other : pointwise eqb (take 5 line) rows_word ≡ false → rows_of line ≡ None
   unfolding rows_of
-  rows_short l =
-      rw (le-leb (length line) 4096 fits, same_lengths (take 5 line) rows_word (λ e. let t = length-take 5 line in absurd (omega arith)))
+  rows-other e = rw (le-leb (length line) 4096 fits, ← same-pointwise, e)
 
-  pub rows_other : {right : Bool} → right ≡ same_bytes (take 5 line) rows_word → not right ≡ true → 0 ≡ or_zero (rows_of line)
+  pub rows_numbered : pointwise eqb (take 5 line) rows_word ≡ true → rows_of line ≡ few_rows (number_in (drop 5 line))
   unfolding rows_of
-  rows_other {right = true} e n = impossible (cc)
-  rows_other {right = false} e n = rw (le-leb (length line) 4096 fits, ← e)
+  rows_numbered e = rw (le-leb (length line) 4096 fits, ← same-pointwise, e, few-bounded)
 
-  module _ {right : Bool} (same : right ≡ same_bytes (take 5 line) rows_word) (left : not right ≡ false) where
-    by_number : rows_of line ≡ few_rows (decimal_of (drop 5 line))
-    unfolding rows_of
-    by_number = rw (le-leb (length line) 4096 fits) (rows-word right same left)
-      where
-        rows-word : (b : Bool) → b ≡ same_bytes (take 5 line) rows_word → not b ≡ false
-            → cond (same_bytes (take 5 line) rows_word) (few_rows (decimal_of (drop 5 line))) none ≡ few_rows (decimal_of (drop 5 line))
-        rows-word true e n = rw (← e)
-        rows-word false e n = impossible (cc)
+few-rows : (d : Option ℕ) {n : ℕ} → few_rows d ≡ Some n → (1 ≤ n) × (n ≤ 256)
+few-rows None e = impossible (cc)
+few-rows (Some k) {n} e =
+    by-test (leb 1 k && leb k 256)
+    (λ t. let same : Some k ≡ Some n = rw t at e in let s : k ≡ n = cc in let b = both (leb 1 k) (leb k 256) t in
+    let l = leb-true 1 k b.0 in let m = leb-true k 256 b.1 in (omega arith, omega arith))
+    (λ f. let h : None ≡ Some n = rw f at e in impossible (cc))
+  where
+    both : (a b : Bool) → a && b ≡ true → (a ≡ true) × (b ≡ true)
+    both true b e = (refl, e)
+    both false b e = impossible (cc)
 
-    -- the number's digits, as the code takes them
-    digits_are : take (length line - 5) (drop 5 line) ≡ drop 5 line
-    digits_are = take_all (length line - 5) (drop 5 line) (let d = length-drop 5 line in omega arith)
-
-    pub rows_unread : {r : Number} → r ≡ number_in (take (length line - 5) (drop 5 line)) → r ≡ Number.Bad → 0 ≡ or_zero (rows_of line)
-    rows_unread e b = rw by_number (unread_rows (decimal_of (drop 5 line)) (rw digits_are at (sym e ∙ b)))
-
-    module _ {r : Number} {n : ℕ} (read : r ≡ number_in (take (length line - 5) (drop 5 line))) (value : r ≡ Number.Value n) where
-      number_is : decimal_of (drop 5 line) ≡ some n
-      number_is = (number-value (drop 5 line) (rw digits_are at (sym read ∙ value))).0
-
-      pub rows-many : 256 < n → 0 ≡ or_zero (rows_of line)
-      rows-many l = rw (by_number, number_is, lt-leb n 256 l, and_false (leb 1 n))
-
-      pub rows_right : n ≤ 256 → n ≡ or_zero (rows_of line)
-      rows_right l = rw (by_number, number_is, le-leb n 256 l, and_true (leb 1 n)) (counted n)
-        where
-          counted : (k : ℕ) → k ≡ or_zero (cond (leb 1 k) (some k) none)
-          counted zero = refl
-          counted (suc k) = rw (le-leb 1 (suc k) (omega arith))
+pub rows_bounds : (line : List ℕ) {n : ℕ} → rows_of line ≡ Some n → (1 ≤ n) × (n ≤ 256)
+unfolding rows_of
+rows_bounds line {n} e =
+    by-test (leb (length line) 4096 && same_bytes (take 5 line) rows_word)
+    (λ t. few-rows (decimal_of (drop 5 line)) (rw t at e))
+    (λ f. let h : None ≡ Some n = rw f at e in impossible (cc))
 
 -- ---- the output
 

@@ -1,12 +1,12 @@
 -- What the program desk_lines prints for its lines (docs/DESK-LINES.md), whole and where the input comes in pieces.
-use Rattle.std.specs.Prelude.{ℕ, zero, suc, ◌*◌, ◌/◌, ◌%◌, ◌≡◌, Bool, true, false, ◌&&◌, cond, List, [], ◌∷◌, ◌++◌, leb, length, take, drop, replicate}
-use Rattle.std.proofs.Math.Option.{Option, none, some}
+use Rattle.std.specs.Prelude.{ℕ, zero, suc, ◌*◌, ◌/◌, ◌%◌, ◌≡◌, Bool, true, false, ◌&&◌, cond, List, [], ◌∷◌, ◌++◌, leb, length, take, drop, replicate, Option, Some, None}
 use Rattle.words.specs.Lists.{same_bytes}
 use Rattle.text.specs.Text.{hex_digit, comma, decimal_of}
 use Rattle.lines.specs.Lines.{line_feed, lines_of, cut, Held, Put}
 use Rattle.window.specs.PasswordAt.{PasswordRule}
 use Rattle.row.specs.Row.{row_bytes}
 use Rattle.call_lines.specs.Line.{line_after}
+use Rattle.script.specs.declared.state.Table.{Table}
 
 -- ---- the table as text
 
@@ -26,13 +26,13 @@ table_text s = rows_text (length s / row_bytes) s
 -- ---- a line
 
 abbrev pub few_rows : Option ℕ → Option ℕ
-few_rows none = none
-few_rows (some n) = cond (leb 1 n && leb n 256) (some n) none
+few_rows None = None
+few_rows (Some n) = cond (leb 1 n && leb n 256) (Some n) None
 
 -- N of a line `rows,N`; a line of more than 4,096 bytes is none
 unfoldable pub rows_of : List ℕ → Option ℕ
 rows_of line =
-    cond (leb (length line) 4096 && same_bytes (take 5 line) (0x72 ∷ 0x6f ∷ 0x77 ∷ 0x73 ∷ comma ∷ [])) (few_rows (decimal_of (drop 5 line))) none
+    cond (leb (length line) 4096 && same_bytes (take 5 line) (0x72 ∷ 0x6f ∷ 0x77 ∷ 0x73 ∷ comma ∷ [])) (few_rows (decimal_of (drop 5 line))) None
 
 -- the line `table`
 abbrev pub is_table : List ℕ → Bool
@@ -58,8 +58,8 @@ later_line passwords line s =
 
 -- a right `rows` line prints nothing
 abbrev pub first_line : PasswordRule → Option ℕ → List ℕ → List ℕ → Served
-first_line passwords (some n) line s = serves [] (replicate (row_bytes * n) 0)
-first_line passwords none line s = later_line passwords line s
+first_line passwords (Some n) line s = serves [] (replicate (row_bytes * n) 0)
+first_line passwords None line s = later_line passwords line s
 
 unfoldable pub served : PasswordRule → List ℕ → Stage → Served
 served passwords line stage =
@@ -84,14 +84,12 @@ output_of passwords input = (served_all passwords (lines_of input) start).text
 
 -- ---- the buffers
 
--- N as the code has it, 0 for none
-abbrev pub or_zero : Option ℕ → ℕ
-or_zero none = 0
-or_zero (some n) = n
-
 -- the table's rows stand at the front of its buffer
 abbrev pub stage_in : Bool → ℕ → List ℕ → Stage
 stage_in fresh rows table = record { fresh = fresh; table = take (row_bytes * rows) table }
+
+abbrev pub stage_of : Table → Stage
+stage_of t = stage_in t.stage.fresh t.stage.rows t.bytes
 
 -- the lines were served: what they print was put into the output at at and ends at end, and the buffer holds the table after them
 pub record Serves (passwords : PasswordRule) (lines : List (List ℕ)) (stage after : Stage) (out : List ℕ) (at : ℕ) (out' : List ℕ) (end : ℕ) : Type 0 where

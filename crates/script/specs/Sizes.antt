@@ -1,5 +1,5 @@
 -- The sizes of the buffers.
-use Rattle.std.specs.Prelude.{ℕ, ◌+◌, ◌*◌, ◌≤◌, ◌≡◌, List, length}
+use Rattle.std.specs.Prelude.{ℕ, ◌+◌, ◌*◌}
 use Rattle.row.specs.Row.{row_bytes}
 
 -- all rows of a table
@@ -17,11 +17,3 @@ most_text = 256 * row_text
 -- beside what is not written out yet, room for what a line prints
 abbrev pub output_bytes : ℕ
 output_bytes = 65536 + most_text
-
--- the buffers' lengths, and the bounds of the pending line's and of the table's
-pub record Sized (line table out : List ℕ) (n rows : ℕ) : Type 0 where
-  pub size : length line ≡ 4096
-  pub cells : length table ≡ table_bytes
-  pub space : length out ≡ output_bytes
-  pub marked : n ≤ 4097
-  pub few : rows ≤ 256

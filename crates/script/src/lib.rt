@@ -2,6 +2,7 @@
 #![tactic(auto)]
 
 mod rows;
-pub mod serving;
+mod serving;
 pub mod sizes;
+pub mod state;
 pub mod stream;

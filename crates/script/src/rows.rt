@@ -1,36 +1,23 @@
 // The lines `rows,N` and `table`.
-ghost use Rattle.std.specs.Prelude.{◌≡◌, ◌+◌, ◌*◌, ◌≤◌, length};
+ghost use Rattle.std.specs.Prelude.{◌≡◌, ◌+◌, ◌*◌, ◌≤◌, length, IfSome};
 ghost use Rattle.lines.specs.Lines.{Put};
 ghost use Rattle.row.specs.Row.{row_bytes};
 ghost use Rattle.script.specs.Sizes.{row_text};
-ghost use Rattle.script.specs.Script.{hex_text, rows_text, rows_of, or_zero};
+ghost use Rattle.script.specs.Script.{hex_text, rows_text, rows_of};
 
 use desk::MOST_ROWS;
 use lines::LINE_FEED;
 use row::ROW_BYTES;
-use text::{Number, decimal, hex_digit};
-use words::bytes::same;
+use text::{decimal, hex_digit};
 
-// N of a line `rows,N` that is right, and 0 of any other.
-pub(crate) fn rows_of(line: &[u8]) -> usize
+// N of a line `rows,N` that is right.
+pub(crate) fn rows_of(line: &[u8]) -> Option<usize>
     requires { length line.now ≤ 4096 }
-    ensures value { result ≡ or_zero (rows_of line.now) }
-    ensures upper_bound { result ≤ 256 }
+    ensures value { result ≡ rows_of line.now }
+    ensures upper_bound { IfSome result (λ rows. rows ≤ 256) }
 {
-    if line.len() < 5 {
-        return 0;
-    }
-    if !same(&line[0..5], b"rows,") {
-        return 0;
-    }
-    let Number::Value(n) = decimal(&line[5..line.len()]) else {
-        return 0;
-    };
-    let rows = n as usize;
-    if MOST_ROWS < rows {
-        return 0;
-    }
-    rows
+    let rows = decimal(line.strip_prefix(b"rows,")?)? as usize;
+    (1..=MOST_ROWS).contains(&rows).then_some(rows)
 }
 
 // Puts the digits of bytes at at, and answers where they end.
@@ -39,13 +26,11 @@ fn put_hex(out: &mut [u8], at: usize, bytes: &[u8]) -> usize
     ensures { Put out.old at (hex_text bytes.now) out.new result }
 {
     let mut end = at;
-    let mut i = 0;
-    while i < bytes.len() {
-        let b = bytes[i] as u16;
+    for &b in bytes {
+        let b = b as u16;
         out[end] = hex_digit(b / 16);
         out[end + 1] = hex_digit(b % 16);
         end += 2;
-        i += 1;
     }
     end
 }
@@ -58,14 +43,12 @@ pub(crate) fn put_rows(out: &mut [u8], at: usize, table: &[u8], rows: usize) -> 
     ensures value { result ≡ at + row_text * rows }
 {
     let mut end = at;
-    let mut i = 0;
-    while i < rows {
+    for i in 0..rows {
         let from = ROW_BYTES * i;
         let to = from + ROW_BYTES;
         end = put_hex(out, end, &table[from..to]);
         out[end] = LINE_FEED;
         end += 1;
-        i += 1;
     }
     end
 }

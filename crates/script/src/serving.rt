@@ -1,33 +1,19 @@
 // What a line does to the table, and what it prints.
-ghost use Rattle.std.specs.Prelude.{◌≡◌, cond, List, [], ◌∷◌, ◌++◌, ℕ, ◌+◌, ◌*◌, ◌≤◌, length};
+ghost use Rattle.std.specs.Prelude.{◌≡◌, cond, None, List, [], ◌∷◌, ◌++◌, ℕ, ◌+◌, ◌*◌, ◌≤◌, length, IfSome};
 ghost use Rattle.lines.specs.Lines.{line_feed, Held, Put};
 ghost use Rattle.window.specs.PasswordAt.{password_at};
 ghost use Rattle.row.specs.Row.{row_bytes};
 ghost use Rattle.call_lines.specs.Line.{line_after};
-ghost use Rattle.script.specs.Sizes.{table_bytes, most_text};
-ghost use Rattle.script.specs.Script.{rows_of, or_zero, later_line, stage_in, Serves};
+ghost use Rattle.script.specs.Sizes.{most_text};
+ghost use Rattle.script.specs.Script.{rows_of, later_line, stage_of, Serves};
 
 use crate::rows::{put_rows, rows_of};
 use crate::sizes::LONGEST;
+use crate::state::{Pending, Stage, Table};
 use call_lines::serve_line;
 use lines::{LINE_FEED, put};
 use row::{ROW_BYTES, clear};
 use words::bytes::same;
-
-// Whether no line was read yet, and how many rows the table has.
-#[derive(Clone, Copy)]
-pub struct Stage {
-    pub fresh: bool,
-    pub rows: usize,
-}
-
-// The stage after a line, and where what it prints ends.
-#[derive(Clone, Copy)]
-pub struct Served {
-    pub fresh: bool,
-    pub rows: usize,
-    pub end: usize,
-}
 
 // Makes the call of a line and puts its answer at at.
 fn put_answer(table: &mut [u8], line: &[u8], out: &mut [u8], at: usize) -> usize
@@ -36,10 +22,8 @@ fn put_answer(table: &mut [u8], line: &[u8], out: &mut [u8], at: usize) -> usize
     ensures put { Put out.old at ((line_after password_at line.now table.old).text ++ (line_feed ∷ [])) out.new result }
     ensures table_after { table.new ≡ (line_after password_at line.now table.old).table }
 {
-    let printed = serve_line(table, line);
-    let n = printed.len;
-    let text = printed.bytes;
-    let end = put(out, at, &text[0..n]);
+    let text = serve_line(table, line);
+    let end = put(out, at, text.as_slice());
     out[end] = LINE_FEED;
     end + 1
 }
@@ -59,69 +43,49 @@ fn serve_later(table: &mut [u8], rows: usize, line: &[u8], out: &mut [u8], at: u
     put_answer(table, line, out, at)
 }
 
-// N of a first line `rows,N` that is right, else 0.
-fn asked_rows(fresh: bool, line: &[u8]) -> usize
+// N of a first line `rows,N` that is right.
+fn asked_rows(fresh: bool, line: &[u8]) -> Option<usize>
     requires { length line.now ≤ 4096 }
-    ensures value { result ≡ cond fresh (or_zero (rows_of line.now)) 0 }
-    ensures upper_bound { result ≤ 256 }
+    ensures value { result ≡ cond fresh (rows_of line.now) None }
+    ensures upper_bound { IfSome result (λ rows. rows ≤ 256) }
 {
     if fresh {
         return rows_of(line);
     }
-    0
+    None
 }
 
-// A line of up to 4,096 bytes.
-fn serve(table: &mut [u8], stage: Stage, line: &[u8], out: &mut [u8], at: usize) -> Served
-    requires table_len { length table.old ≡ table_bytes }
-    requires rows_bound { stage.rows ≤ 256 }
-    requires line_len_bound { length line.now ≤ 4096 }
-    requires most_text_in_bounds { at + most_text ≤ length out.old }
-    ensures rows_bound_2 { (result.rows ≤ 256) × (result.end ≤ at + most_text) }
-    ensures serves { Serves password_at (line.now ∷ []) (stage_in stage.fresh stage.rows table.old) (stage_in result.fresh result.rows table.new) out.old at out.new result.end }
-{
-    let rows = asked_rows(stage.fresh, line);
-    if 0 < rows {
-        let size = ROW_BYTES * rows;
-        clear(&mut table[0..size]);
-        return Served {
-            fresh: false,
-            rows,
-            end: at,
-        };
-    }
-    let size = ROW_BYTES * stage.rows;
-    let end = serve_later(&mut table[0..size], stage.rows, line, out, at);
-    Served {
-        fresh: false,
-        rows: stage.rows,
-        end,
+impl Table {
+    // A line of up to 4,096 bytes, of which what it prints is put at at. Answers where that ends.
+    fn serve(&mut self, line: &[u8], out: &mut [u8], at: usize) -> usize
+        requires line_len_bound { length line.now ≤ 4096 }
+        requires most_text_in_bounds { at + most_text ≤ length out.old }
+        ensures upper_bound { result ≤ at + most_text }
+        ensures serves { Serves password_at (line.now ∷ []) (stage_of self.old) (stage_of self.new) out.old at out.new result }
+    {
+        let Stage { fresh, rows } = self.stage;
+        if let Some(rows) = asked_rows(fresh, line) {
+            clear(&mut self.bytes[..ROW_BYTES * rows]);
+            self.stage = Stage { fresh: false, rows };
+            return at;
+        }
+        self.stage = Stage { fresh: false, rows };
+        serve_later(&mut self.bytes[..ROW_BYTES * rows], rows, line, out, at)
     }
 }
 
-// The pending line, which has ended.
-pub(crate) fn serve_pending(
-    line: &[u8],
-    n: usize,
-    table: &mut [u8],
-    stage: Stage,
-    out: &mut [u8],
-    at: usize,
-) -> Served
-    requires line_len { length line.now ≡ 4096 }
-    requires table_len { length table.old ≡ table_bytes }
-    requires rows_bound { stage.rows ≤ 256 }
-    requires most_text_in_bounds { at + most_text ≤ length out.old }
-    ensures rows_bound_2 { (result.rows ≤ 256) × (result.end ≤ at + most_text) }
-    ensures by_index { (p : List ℕ) → Held line.now n p → Serves password_at (p ∷ []) (stage_in stage.fresh stage.rows table.old) (stage_in result.fresh result.rows table.new) out.old at out.new result.end }
-{
-    if LONGEST < n {
-        let end = put(out, at, b"9005\n");
-        return Served {
-            fresh: false,
-            rows: stage.rows,
-            end,
-        };
+impl Pending {
+    // Serves the pending line, which has ended.
+    pub(crate) fn serve(&self, table: &mut Table, out: &mut [u8], at: usize) -> usize
+        requires { at + most_text ≤ length out.old }
+        ensures upper_bound { result ≤ at + most_text }
+        ensures by_index { (p : List ℕ) → Held self.now.line self.now.n p → Serves password_at (p ∷ []) (stage_of table.old) (stage_of table.new) out.old at out.new result }
+    {
+        if LONGEST < self.n {
+            let Stage { rows, .. } = table.stage;
+            table.stage = Stage { fresh: false, rows };
+            return put(out, at, b"9005\n");
+        }
+        table.serve(&self.line[..self.n], out, at)
     }
-    serve(table, stage, &line[0..n], out, at)
 }

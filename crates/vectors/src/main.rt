@@ -3,7 +3,7 @@
 
 use sm3::sm3;
 use sm4::{encrypt, round_keys};
-use std::io;
+use std::{array, io};
 
 // One line: what it is, then the bytes in hexadecimal.
 fn show(rt: &impl Print, name: &str, bytes: &[u8]) -> io::Result<()> {
@@ -23,11 +23,7 @@ fn show_digest(rt: &impl Print, name: &str, message: &[u8]) -> io::Result<()> {
 
 // The 64 bytes "abcd" sixteen times.
 fn repeated() -> [u8; 64] {
-    let mut message = [0u8; 64];
-    for i in 0..64 {
-        message[i] = b'a' + (i % 4) as u8;
-    }
-    message
+    array::from_fn(|i| b"abcd"[i % 4])
 }
 
 // The block encrypted again and again under the same round keys.

@@ -1,21 +1,80 @@
-use Rattle.std.proofs.Common.{arith}
-use Rattle.call_lines.specs.LineLaws.{read_none, read_as, count_small, line-miscounted, name_first, line_unread, line_read}
+use Rattle.std.proofs.lemmas.Result.{err_from_is_err_and}
+use Rattle.call_lines.specs.Line.{fields_read}
+use Rattle.call_lines.specs.GivenLaws.{option-given, option-refused}
+use Rattle.call_lines.specs.LineLaws.{read_none, read_as}
 use Rattle.call_lines.proofs.calls.call_line.Goals as goal
 
-pub has_fields-requires : goal.has_fields-requires
-has_fields-requires c = record { n_bound = count_small c.name_of-name.result c.count_of-count.ensures; line_len_bound = c.requires }
+pub returns-in_err-name : goal.returns-in_err-name
+unfolding fields_read
+returns-in_err-name c =
+    let p = err_from_is_err_and c.from_residual.result c.from_residual.ensures.1 in
+    let refused = option-refused c.name_of.result c.ok_or.ensures.value (c.in_err-name.was) in
+    rw (p.1, p.2, refused.1) (read_none _ _ (rw (← c.field.ensures, ← c.name_of.ensures, refused.0)))
 
 pub returns-then-not-has_fields : goal.returns-then-not-has_fields
-returns-then-not-has_fields c = read_none _ _ (line-miscounted _ c.field.ensures c.name_of-name.ensures c.count_of-count.ensures c.has_fields.ensures c.if-not-has_fields.true-raw)
+unfolding fields_read
+returns-then-not-has_fields c =
+    let name = option-given c.name_of.result c.ok_or.ensures.value (c.in_ok-name.was) in
+    read_none _ _
+    (rw (← c.field.ensures, ← c.name_of.ensures, name, ← c.count-count.ensures.value, ← c.has_fields.ensures, c.if-not-has_fields.true))
 
-pub overflow_sub-count : goal.overflow_sub-count
-overflow_sub-count c = name_first _ c.field.ensures c.name_of-name.ensures c.count_of-count.ensures c.has_fields.ensures c.if-not-has_fields.false-raw
+pub returns-in_err-serial : goal.returns-in_err-serial
+unfolding fields_read
+returns-in_err-serial c =
+    let p = err_from_is_err_and c.from_residual-in_err-serial.result c.from_residual-in_err-serial.ensures.1 in
+    let name = option-given c.name_of.result c.ok_or.ensures.value (c.in_ok-name.was) in
+    let refused = option-refused c.number_at.result c.ok_or-2.ensures.value (c.in_err-serial.was) in
+    rw (p.1, p.2, refused.1)
+    (read_none _ _
+    (rw (
+      ← c.field.ensures,
+      ← c.name_of.ensures,
+      name,
+      ← c.count-count.ensures.value,
+      ← c.has_fields.ensures,
+      c.if-not-has_fields.false,
+      ← c.number_at.ensures,
+      refused.0,
+    )))
 
-pub number_at-clock-requires : goal.number_at-clock-requires
-number_at-clock-requires c = record { i_bound = let h = count_small c.name_of-name.result c.count_of-count.ensures in omega arith; line_len_bound = c.requires }
-
-pub returns-then-not-serial-clock : goal.returns-then-not-serial-clock
-returns-then-not-serial-clock c = read_none _ _ (line_unread _ c.field.ensures c.name_of-name.ensures c.count_of-count.ensures c.has_fields.ensures c.if-not-has_fields.false-raw _ _ _ _ c.number_at-serial.ensures.i_value c.number_at-clock.ensures.i_value c.if-not-serial-clock.true-raw)
+pub returns-in_err-clock : goal.returns-in_err-clock
+unfolding fields_read
+returns-in_err-clock c =
+    let p = err_from_is_err_and c.from_residual-in_err-clock.result c.from_residual-in_err-clock.ensures.1 in
+    let name = option-given c.name_of.result c.ok_or.ensures.value (c.in_ok-name.was) in
+    let serial = option-given c.number_at.result c.ok_or-2.ensures.value (c.in_ok-serial.was) in
+    let refused = option-refused c.number_at-2.result c.ok_or-3.ensures.value (c.in_err-clock.was) in
+    rw (p.1, p.2, refused.1)
+    (read_none _ _
+    (rw (
+      ← c.field.ensures,
+      ← c.name_of.ensures,
+      name,
+      ← c.count-count.ensures.value,
+      ← c.has_fields.ensures,
+      c.if-not-has_fields.false,
+      ← c.number_at.ensures,
+      serial,
+      ← c.number_at-2.ensures,
+      refused.0,
+    )))
 
 pub returns : goal.returns
-returns c = read_as _ _ c.named_line.ensures (line_read _ c.field.ensures c.name_of-name.ensures c.count_of-count.ensures c.has_fields.ensures c.if-not-has_fields.false-raw _ _ _ _ c.number_at-serial.ensures.i_value c.number_at-clock.ensures.i_value c.if-not-serial-clock.false-raw)
+unfolding fields_read
+returns c =
+    let name = option-given c.name_of.result c.ok_or.ensures.value (c.in_ok-name.was) in
+    let serial = option-given c.number_at.result c.ok_or-2.ensures.value (c.in_ok-serial.was) in
+    let clock = option-given c.number_at-2.result c.ok_or-3.ensures.value (c.in_ok-clock.was) in
+    read_as _ _ c.named_line.ensures
+    (rw (
+      ← c.field.ensures,
+      ← c.name_of.ensures,
+      name,
+      ← c.count-count.ensures.value,
+      ← c.has_fields.ensures,
+      c.if-not-has_fields.false,
+      ← c.number_at.ensures,
+      serial,
+      ← c.number_at-2.ensures,
+      clock,
+    ))

@@ -1,5 +1,5 @@
 use Rattle.call_lines.specs.Line.{call_by}
-use Rattle.call_lines.specs.LineLaws.{read_none, read_as, read-call}
+use Rattle.call_lines.specs.LineLaws.{read_as, read-call}
 use Rattle.call_lines.proofs.calls.named_line.Goals as goal
 
 pub returns-in-Load : goal.returns-in-Load
@@ -45,7 +45,3 @@ returns-in-Resume c = read-call _ _ c.resume.ensures (rw (c.in-Resume.is, c.fiel
 pub returns-in-Sync : goal.returns-in-Sync
 unfolding call_by
 returns-in-Sync c = read_as _ _ c.sync_line.ensures (rw c.in-Sync.is)
-
-pub returns-in-Unknown : goal.returns-in-Unknown
-unfolding call_by
-returns-in-Unknown c = read_none _ _ (rw c.in-Unknown.is)

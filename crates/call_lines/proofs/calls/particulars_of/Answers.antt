@@ -1,7 +1,31 @@
-use Rattle.text.specs.Text.{fields_of}
-use Rattle.call_lines.specs.LineLaws.{all-taken}
+use Rattle.std.proofs.Common.{rules}
+use Rattle.call_lines.specs.Line.{particulars_of}
 use Rattle.call_lines.proofs.calls.particulars_of.Goals as goal
 
+pub returns-in_err-byte_at : goal.returns-in_err-byte_at
+unfolding particulars_of
+returns-in_err-byte_at c = search rules
+
+pub returns-in_err-byte_at-2 : goal.returns-in_err-byte_at-2
+unfolding particulars_of
+returns-in_err-byte_at-2 c = search rules
+
+pub returns-in_err-byte_at-3 : goal.returns-in_err-byte_at-3
+unfolding particulars_of
+returns-in_err-byte_at-3 c = search rules
+
+pub returns-in_err-byte_at-4 : goal.returns-in_err-byte_at-4
+unfolding particulars_of
+returns-in_err-byte_at-4 c = search rules
+
+pub returns-in_err-byte_at-5 : goal.returns-in_err-byte_at-5
+unfolding particulars_of
+returns-in_err-byte_at-5 c = search rules
+
+pub returns-in_err-word_at : goal.returns-in_err-word_at
+unfolding particulars_of
+returns-in_err-word_at c = search rules
+
 pub returns : goal.returns
-returns c =
-    all-taken (fields_of c.args.line.now) c.args.serial c.args.expiry.0 c.byte_at-kind.result.value c.byte_at-algorithm.result.value c.byte_at-digits.result.value c.byte_at-period.result.value c.byte_at-limit.result.value c.number_at-wait.result.value c.byte_at-kind.result.ok c.byte_at-algorithm.result.ok c.byte_at-digits.result.ok c.byte_at-period.result.ok c.byte_at-limit.result.ok c.number_at-wait.result.ok c.byte_at-kind.ensures c.byte_at-algorithm.ensures c.byte_at-digits.ensures c.byte_at-period.ensures c.byte_at-limit.ensures c.number_at-wait.ensures.i_value
+unfolding particulars_of
+returns c = search rules

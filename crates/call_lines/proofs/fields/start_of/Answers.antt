@@ -1,26 +1,16 @@
-use Rattle.call_lines.specs.FieldsLaws.{passed_none, end-bounded, passed_more, passed-all}
 use Rattle.std.proofs.Common.{arith}
 use Rattle.call_lines.specs.FieldsLaws.{end-bounded, passed_more, passed-all}
 use Rattle.call_lines.proofs.fields.start_of.Goals as goal
 
-pub loop-passed-init : goal.loop-passed-init
-loop-passed-init c = passed_none c.args.line.now c.args.i
-
 pub overflow_add-start : goal.overflow_add-start
 overflow_add-start c =
-    let e = end-bounded c.args.line.now c.args.i c.loop-passed.start c.loop-passed.passed c.loop-passed.invariant c.loop-passed-test.true c.field_at-start.ensures in
+    let e = end-bounded c.args.line.now c.args.i c.loop-passed.start c.loop-passed._passed c.loop-passed.invariant c.loop-passed-test.true c.field_at-start.ensures in
     omega arith
-
-pub overflow_add-passed : goal.overflow_add-passed
-overflow_add-passed c = omega arith
-
-pub loop-passed-smaller : goal.loop-passed-smaller
-loop-passed-smaller c = omega arith
 
 pub loop-passed-preserved : goal.loop-passed-preserved
 loop-passed-preserved c =
-    passed_more c.args.line.now c.args.i c.loop-passed.start c.loop-passed.passed c.loop-passed.invariant c.loop-passed-test.true c.field_at-start.ensures
+    passed_more c.args.line.now c.args.i c.loop-passed.start c.loop-passed._passed c.loop-passed.invariant c.loop-passed-test.true c.field_at-start.ensures
 
 pub returns : goal.returns
 returns c =
-    passed-all c.args.line.now c.args.i c.loop-passed.start c.loop-passed.passed c.loop-passed.invariant c.loop-passed-test.false
+    passed-all c.args.line.now c.args.i c.loop-passed.start c.loop-passed._passed c.loop-passed.invariant c.loop-passed-test.false

@@ -1,7 +1,13 @@
-use Rattle.call_lines.specs.Line.{name_of}
+use Rattle.std.proofs.Common.{rules, tests, ◌∙◌}
+use Rattle.std.proofs.lemmas.Iterator.{YieldsList-from_slice}
+use Rattle.std.proofs.lemmas.Iterator.Search.{find_from_yields_List}
+use Rattle.words.specs.Lists.{same_bytes}
+use Rattle.call_lines.specs.Line.{text_of, names, name_of}
 use Rattle.call_lines.proofs.names.name_of.Goals as goal
 
 pub returns : goal.returns
 unfolding name_of
 returns c =
-    rw (c.is_named.ensures, c.is_named-name-10.ensures, c.is_named-name-9.ensures, c.is_named-name-8.ensures, c.is_named-name-7.ensures, c.is_named-name-6.ensures, c.is_named-name-5.ensures, c.is_named-name-4.ensures, c.is_named-name-3.ensures, c.is_named-name-2.ensures, c.is_named-name.ensures)
+    c.copied.ensures
+    ∙ find_from_yields_List (λ name. same_bytes c.args.field.now (text_of name)) _ _ c.find.result c.find.ensures.ran (YieldsList-from_slice names cc)
+    (λ x b q k. search (rules, tests))

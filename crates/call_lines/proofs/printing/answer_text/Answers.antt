@@ -1,12 +1,15 @@
-use Rattle.std.proofs.Common.{arith}
-use Rattle.call_lines.specs.PrintingLaws.{code-length, success-text, refusal-text}
+use Rattle.std.proofs.Common.{append-nil}
+use Rattle.call_lines.specs.Line.{code_text, values_text, answer_text}
 use Rattle.call_lines.proofs.printing.answer_text.Goals as goal
 
 pub put_content-requires : goal.put_content-requires
-put_content-requires c = code-length c.args.answer c.number_of.ensures c.code_text-code.ensures
+unfolding code_text
+put_content-requires c = rw c.code_text-code.ensures
 
-pub returns-in-Success : goal.returns-in-Success
-returns-in-Success c = record { value = success-text c.args.answer c.number_of.ensures c.code_text-code.ensures c.in-Success.is c.put_content.ensures.puts; len_bound = c.put_content.ensures.len_bound }
+pub returns-in-Ok : goal.returns-in-Ok
+unfolding answer_text
+returns-in-Ok c = rw (c.put_content.ensures, c.code_text-code.ensures, c.number_of.ensures, c.in-Ok.is)
 
-pub returns-in-Refused : goal.returns-in-Refused
-returns-in-Refused c = record { value = refusal-text c.args.answer c.number_of.ensures c.code_text-code.ensures c.in-Refused.is; len_bound = let h = code-length c.args.answer c.number_of.ensures c.code_text-code.ensures in omega arith }
+pub returns-in-Err : goal.returns-in-Err
+unfolding answer_text values_text
+returns-in-Err c = rw (c.code_text-code.ensures, c.number_of.ensures, c.in-Err.is, append-nil)

@@ -1,6 +1,6 @@
 use Rattle.std.proofs.Common.{◌-◌, length, take}
 use Rattle.window.specs.PasswordAt.{password_at}
-use Rattle.script.specs.Script.{stage_in}
+use Rattle.script.specs.Script.{stage_of}
 use Rattle.desk_lines.specs.Input.{Writes}
 use Rattle.desk_lines.specs.InputLaws.{Serving}
 use Rattle.desk_lines.proofs.input.serve_piece.Given as goal
@@ -9,10 +9,10 @@ abbrev pub invariant-loop-at : goal.invariant-loop-at
 invariant-loop-at g l =
     record {
       serving :
-          Serving password_at l.initial.line l.n (stage_in l.initial.fresh l.initial.rows l.initial.table) l.piece l.line l.table l.out l.pending l.fresh l.rows l.at;
+          Serving password_at l.initial.pending.line l.initial.pending.n (stage_of l.initial.table) l.piece l.pending.line l.pending.n (stage_of l.table) l.at;
       writes :
-          Writes password_at l.initial.line l.n (take l.at l.piece) (stage_in l.initial.fresh l.initial.rows l.initial.table)
-          (g.W.Write.contents l.initial.to) (g.W.Write.contents l.to);
+          Writes password_at l.initial.pending.line l.initial.pending.n (take l.at l.piece) (stage_of l.initial.table) (g.W.Write.contents l.initial.to)
+          (g.W.Write.contents l.to);
     }
 
 abbrev pub decreases-loop-at : goal.decreases-loop-at

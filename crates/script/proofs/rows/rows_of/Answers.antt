@@ -1,18 +1,27 @@
-use Rattle.std.proofs.Common.{arith}
-use Rattle.script.specs.RowsLaws.{rows_short, rows_other, rows_unread, rows-many, rows_right}
+use Rattle.std.proofs.Common.{◌≡◌, ◌∙◌, sym, ◌&&◌, leb, rules}
+use Rattle.script.specs.RowsLaws.{some-tested, rows-other, rows_numbered}
 use Rattle.script.proofs.rows.rows_of.Goals as goal
 
-pub returns-then-line-lt5 : goal.returns-then-line-lt5
-returns-then-line-lt5 c = record { value = rows_short c.args.line.now c.requires c.if-line-lt5.true; upper_bound = omega arith }
+pub returns-in_err-strip_prefix-clause-value : goal.returns-in_err-strip_prefix-clause-value
+returns-in_err-strip_prefix-clause-value c =
+    c.from_residual.ensures ∙ sym (rows-other c.args.line.now c.requires c.in_err-strip_prefix.ensures.cases)
 
-pub returns-then-not-same : goal.returns-then-not-same
-returns-then-not-same c = record { value = rows_other c.args.line.now c.requires c.same.ensures c.if-not-same.true-raw; upper_bound = omega arith }
+pub returns-in_err-rows-clause-value : goal.returns-in_err-rows-clause-value
+returns-in_err-rows-clause-value c =
+    let digits = c.in_ok-strip_prefix.ensures.cases in
+    rw (
+      c.from_residual-in_err-rows.ensures,
+      rows_numbered c.args.line.now c.requires digits.0,
+      ← digits.1,
+      ← c.decimal.ensures,
+      c.in_err-rows.was,
+    )
 
-pub returns-in_default : goal.returns-in_default
-returns-in_default c = record { value = rows_unread c.args.line.now (c.requires) c.same.ensures c.if-not-same.false-raw c.decimal.ensures c.in_default.is; upper_bound = omega arith }
-
-pub returns-then-rows-gt-MOST_ROWS : goal.returns-then-rows-gt-MOST_ROWS
-returns-then-rows-gt-MOST_ROWS c = record { value = rows-many c.args.line.now (c.requires) c.same.ensures c.if-not-same.false-raw c.decimal.ensures c.in-Value.is c.if-rows-gt-MOST_ROWS.true; upper_bound = omega arith }
-
-pub returns : goal.returns
-returns c = record { value = rows_right c.args.line.now (c.requires) c.same.ensures c.if-not-same.false-raw c.decimal.ensures c.in-Value.is c.if-rows-gt-MOST_ROWS.false; upper_bound = c.if-rows-gt-MOST_ROWS.false }
+pub returns-clause-value : goal.returns-clause-value
+returns-clause-value c =
+    let digits = c.in_ok-strip_prefix.ensures.cases in
+    let rows = c.in_ok-rows.rows in
+    let within : c.contains.result ≡ (leb 1 rows && leb rows 256) = search rules in
+    c.then_some.ensures
+    ∙ some-tested c.contains.result rows
+    ∙ rw (within, rows_numbered c.args.line.now c.requires digits.0, ← digits.1, ← c.decimal.ensures, c.in_ok-rows.was)
