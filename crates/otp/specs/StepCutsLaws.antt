@@ -133,13 +133,3 @@ unfolding cut_by sm4_of encrypt_with
 step_cut_lem key timed s h =
     let keys = round_keys (take 16 key) in
     rw (one_block key (filled (step_id timed s)) (id-length timed s), block_words timed s h) (reversed-cut (steps linear keys 32 (step_block timed s)) (step-below keys timed s h))
-
--- ---- the two kinds of blocks
-
-pub timed_block : (timed : Bool) (s : ℕ) → timed ≡ true → ◌≡◌ {A = Quad} (record { a = s / 2 ^ 32; b = s % 2 ^ 32; c = 0; d = 0 }) (step_block timed s)
-unfolding step_block
-timed_block timed s t = rw t
-
-pub counted_block : (timed : Bool) (s : ℕ) → timed ≡ false → ◌≡◌ {A = Quad} (record { a = s % 2 ^ 32; b = 0; c = 0; d = 0 }) (step_block timed s)
-unfolding step_block
-counted_block timed s t = rw t
