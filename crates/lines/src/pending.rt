@@ -1,5 +1,5 @@
 // The line that no line feed has ended yet.
-ghost use Rattle.std.specs.Prelude.{◌≡◌, ◌↔◌, [], ◌++◌, ℕ, ◌≤◌, List, take, option_map, option_copied, Option, Some, IfSome, IsTrue};
+ghost use Rattle.std.specs.Prelude.{◌≡◌, ◌↔◌, [], ◌++◌, ℕ, ◌≤◌, List, length, take, option_map, option_copied, Option, Some, IfSome, IsTrue};
 ghost use Rattle.lines.specs.Lines.{kept};
 
 use crate::put;
@@ -35,7 +35,8 @@ impl<const N: usize> Pending<N> {
 
     // The line, where it is not longer.
     pub fn line(&self) -> Option<&[u8]>
-        ensures { option_copied result ≡ self.now }
+        ensures value { option_copied result ≡ self.now }
+        ensures upper_bound { IfSome result (λ line. length line.now ≤ N) }
     {
         let n = self.len?;
         Some(&self.bytes[..n])
