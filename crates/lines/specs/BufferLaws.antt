@@ -1,9 +1,9 @@
 -- What the functions on the buffers return.
-use Rattle.std.specs.Prelude.{ℕ, ◌+◌, ◌-◌, ◌≤◌, ◌<◌, ◌≡◌, refl, Bool, true, false, ◌||◌, not, List, [], ◌++◌, eqb, ltb, length, take, drop}
-use Rattle.std.proofs.Common.{ap, ◌∙◌, append_assoc, arith, eqb-true, ltb-true, ltb-false, length-append, length-take-le, take_at}
-use Rattle.words.specs.BoolLaws.{by-test, clash}
+use Rattle.std.specs.Prelude.{ℕ, ◌+◌, ◌-◌, ◌≤◌, ◌<◌, ◌≡◌, refl, Bool, true, false, ◌||◌, not, List, [], ◌++◌, eqb, ltb, nat_le, length, take, drop, Some, None}
+use Rattle.std.proofs.Common.{ap, ◌∙◌, append_assoc, arith, eqb-true, leb-false, ltb-true, ltb-false, length-append, length-take-le, take_at}
+use Rattle.words.specs.BoolLaws.{by-test, clash, impossible}
 use Rattle.words.specs.PutLaws.{put-part}
-use Rattle.lines.specs.Lines.{Held, Put}
+use Rattle.lines.specs.Lines.{Held, kept, Put}
 
 -- ---- the output
 
@@ -27,6 +27,20 @@ put_join {s} {middle} {after} {a} {b} {at} f g =
     }
 
 -- ---- the pending line
+
+-- what is kept is the line
+pub kept-line : (n : ℕ) {line : List ℕ} (p : List ℕ) → Some line ≡ kept n p → line ≡ p
+kept-line n {line} p held =
+    by-test (nat_le (length p) n)
+    (λ t. let e : Some line ≡ Some p = rw t at held in cc)
+    (λ f. let z : Some line ≡ None = rw f at held in impossible (cc))
+
+-- what is not kept is longer
+pub kept-long : (n : ℕ) (p : List ℕ) → None ≡ kept n p → n < length p
+kept-long n p held =
+    by-test (nat_le (length p) n)
+    (λ t. let z : None ≡ Some p = rw t at held in impossible (cc))
+    (λ f. leb-false (length p) n f)
 
 pub held_nothing : (line : List ℕ) → Held line 0 []
 held_nothing line = record { short = λ m. refl; long = λ m. absurd (omega arith) }

@@ -1,5 +1,5 @@
 -- The lines of an input, whole and in pieces.
-use Rattle.std.specs.Prelude.{ℕ, ◌+◌, ◌≤◌, ◌<◌, ◌≡◌, cond, List, [], ◌∷◌, ◌++◌, eqb, length, take}
+use Rattle.std.specs.Prelude.{ℕ, ◌+◌, ◌≤◌, ◌<◌, ◌≡◌, cond, List, [], ◌∷◌, ◌++◌, eqb, nat_le, length, take, Option, Some, None}
 use Rattle.text.specs.Text.{longer}
 
 abbrev pub line_feed : ℕ
@@ -36,6 +36,10 @@ last (b ∷ p) = (b ∷ p) ∷ []
 pub record Held (line : List ℕ) (n : ℕ) (p : List ℕ) : Type 0 where
   pub short : n ≤ length line → p ≡ take n line
   pub long : length line < n → length line < length p
+
+-- what n bytes keep of a pending line: of a longer one only that it is
+abbrev pub kept : ℕ → List ℕ → Option (List ℕ)
+kept n p = cond (nat_le (length p) n) (Some p) None
 
 -- text was put into the output at at, behind what stood there, and ends at end
 pub record Put (before : List ℕ) (at : ℕ) (text after : List ℕ) (end : ℕ) : Type 0 where

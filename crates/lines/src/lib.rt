@@ -1,9 +1,12 @@
 // Lines of an input that comes in pieces: the line that no line feed has ended yet, and the output.
 #![tactic(auto)]
 
+mod pending;
+
 ghost use Rattle.std.specs.Prelude.{List, ◌++◌, ℕ, ◌+◌, ◌≤◌, length};
 ghost use Rattle.lines.specs.Lines.{Held, Put};
 
+pub use pending::Pending;
 use words::bytes::copy;
 
 pub const LINE_FEED: u8 = 0x0a;
