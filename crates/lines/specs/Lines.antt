@@ -1,5 +1,5 @@
 -- The lines of an input, whole and in pieces.
-use Rattle.std.specs.Prelude.{ℕ, ◌+◌, ◌≤◌, ◌<◌, ◌≡◌, cond, List, [], ◌∷◌, ◌++◌, eqb, nat_le, length, take, Option, Some, None}
+use Rattle.std.specs.Prelude.{ℕ, ◌+◌, ◌≡◌, cond, List, [], ◌∷◌, ◌++◌, eqb, nat_le, length, take, Option, Some, None}
 use Rattle.text.specs.Text.{longer}
 
 abbrev pub line_feed : ℕ
@@ -31,11 +31,6 @@ last [] = []
 last (b ∷ p) = (b ∷ p) ∷ []
 
 -- ---- buffers
-
--- a pending line stands at the front of the buffer; of one that is longer than the buffer only that is kept
-pub record Held (line : List ℕ) (n : ℕ) (p : List ℕ) : Type 0 where
-  pub short : n ≤ length line → p ≡ take n line
-  pub long : length line < n → length line < length p
 
 -- what n bytes keep of a pending line: of a longer one only that it is
 abbrev pub kept : ℕ → List ℕ → Option (List ℕ)
