@@ -1,5 +1,6 @@
 -- The text of an answer: what is printed of a number is read again as that number, and no answer has more than 40 bytes.
-use Rattle.std.specs.Prelude.{ℕ, zero, suc, ◌+◌, ◌-◌, ◌*◌, ◌/◌, ◌%◌, ◌^◌, ◌≤◌, ◌<◌, ◌≡◌, refl, List, [], ◌∷◌, ◌++◌, eqb, leb, ltb, length, get_or, Some, None}
+use Rattle.token.specs.Answers.{Answer}
+use Rattle.std.specs.Prelude.{ℕ, zero, suc, ◌+◌, ◌-◌, ◌*◌, ◌/◌, ◌%◌, ◌^◌, ◌≤◌, ◌<◌, ◌≡◌, refl, List, [], ◌∷◌, ◌++◌, eqb, leb, ltb, length, get_or, Some, None, Err, Ok}
 use Rattle.std.proofs.Common.{sym, ◌∙◌, pow-suc, div-lt_iff_lt-mul, lt_of_lt_of_le, zero-lt-suc, arith, eqb-true, lt-ltb, le-leb, ltb-true, ltb-false, leb-false, lit≤, length-append}
 use Rattle.std.proofs.lemmas.Bool.{eqb-false}
 use Rattle.std.proofs.Math.ListN.{get_or-append}
@@ -9,7 +10,6 @@ use Rattle.text.specs.DecimalLaws.{decimal_digits_lem}
 use Rattle.window.specs.declared.Offset.{Offset}
 use Rattle.window.specs.Window.{farthest}
 use Rattle.token.specs.declared.answers.Content.{Content}
-use Rattle.token.specs.declared.answers.Answer.{Answer}
 use Rattle.token.specs.Codes.{signed_of, values_of}
 use Rattle.call_lines.specs.Line.{given, code_text, decimal_digits, decimal_text, signed_text, values_text, answer_text}
 use Rattle.call_lines.specs.PrintingLaws.{decimal_few}
@@ -82,8 +82,8 @@ Typed (Content.Checked step offset) = (step.0 < 2 ^ 64) × (offset.0 < 2 ^ 16)
 Typed (Content.Queried status) = (status.state < 2 ^ 8) × ((status.errors < 2 ^ 8) × (status.last_use.0 < 2 ^ 64))
 
 abbrev pub AnswerTyped : Answer → Type 0
-AnswerTyped (Answer.Success number content) = Typed content
-AnswerTyped (Answer.Refused refusal) = Unit {0}
+AnswerTyped (Ok success) = Typed success.content
+AnswerTyped (Err refusal) = Unit {0}
 
 -- an offset has a sign and up to five digits
 offset-fits : (offset : Offset) → offset.0 < 2 ^ 16 → length (signed_text (signed_of offset)) ≤ 5
@@ -112,5 +112,5 @@ content-fits (Content.Queried status) h =
 
 pub answer-fits : (answer : Answer) → AnswerTyped answer → length (answer_text answer) ≤ 40
 unfolding answer_text code_text values_text
-answer-fits (Answer.Success number content) h = let few = content-fits content h in omega arith
-answer-fits (Answer.Refused refusal) h = omega arith
+answer-fits (Ok success) h = let few = content-fits success.content h in omega arith
+answer-fits (Err refusal) h = omega arith

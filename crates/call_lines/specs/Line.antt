@@ -1,11 +1,11 @@
 -- What a line of the program desk_lines means (its format: "Lines for the desk"): the call or the message that is served, and what is printed for it.
-use Rattle.std.specs.Prelude.{ℕ, zero, suc, ◌+◌, ◌-◌, ◌/◌, ◌%◌, ◌^◌, Bool, cond, List, [], ◌∷◌, ◌++◌, eqb, leb, ltb, length, get_or, Option, Some, None}
+use Rattle.token.specs.Answers.{Answer}
+use Rattle.std.specs.Prelude.{ℕ, zero, suc, ◌+◌, ◌-◌, ◌/◌, ◌%◌, ◌^◌, Bool, cond, List, [], ◌∷◌, ◌++◌, eqb, leb, ltb, length, get_or, Option, Some, None, Err, Ok}
 use Rattle.std.specs.List.{find}
 use Rattle.words.specs.Lists.{same_bytes}
 use Rattle.text.specs.Text.{hex_digit, comma, decimal_of, hex_of, fields_of}
 use Rattle.window.specs.PasswordAt.{PasswordRule}
 use Rattle.token.specs.declared.answers.Refusal.{Refusal}
-use Rattle.token.specs.declared.answers.Answer.{Answer}
 use Rattle.token.specs.Codes.{Signed, number_of, values_of}
 use Rattle.desk.specs.declared.Particulars.{Particulars}
 use Rattle.desk.specs.Requests.{DeskCall, login_call, challenge_call, activate_call, lock_call, unlock_call, suspend_call, resume_call, sync_call, void_call, query_call}
@@ -190,8 +190,8 @@ values_text [] = []
 values_text (v ∷ values) = comma ∷ (signed_text v ++ values_text values)
 
 abbrev pub answer_values : Answer → List Signed
-answer_values (Answer.Success number content) = values_of content
-answer_values (Answer.Refused refusal) = []
+answer_values (Ok success) = values_of success.content
+answer_values (Err refusal) = []
 
 -- the code, and what a success carries
 unfoldable pub answer_text : Answer → List ℕ

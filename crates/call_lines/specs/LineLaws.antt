@@ -1,4 +1,5 @@
 -- What each branch of a line's call returns.
+use Rattle.token.specs.Answers.{Answer}
 use Rattle.std.specs.Prelude.{ℕ, ◌^◌, ◌≤◌, ◌<◌, ◌≡◌, Bool, List, [], ◌∷◌, leb, ltb, length, Option, Some, None}
 use Rattle.std.proofs.Math.Path.{refl}
 use Rattle.std.proofs.Common.{sym, ◌∙◌, arith}
@@ -11,7 +12,6 @@ use Rattle.row.specs.Row.{row_bytes}
 use Rattle.text.specs.Text.{decoded, decoded_of, bounded, hex_of, fields_of}
 use Rattle.window.specs.PasswordAt.{PasswordRule}
 use Rattle.token.specs.declared.answers.Refusal.{Refusal}
-use Rattle.token.specs.declared.answers.Answer.{Answer}
 use Rattle.desk.specs.declared.Particulars.{Particulars}
 use Rattle.desk.specs.Requests.{DeskCall, challenge_call, table_ok, challenge_given, request_ok}
 use Rattle.desk.specs.Desk.{Result, result_of, refused, desk_after}

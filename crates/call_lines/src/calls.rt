@@ -41,12 +41,8 @@ fn load_line(table: &mut [u8], line: &[u8], serial: u64, expiry: Seconds) -> Ans
     requires { length line.now ≤ 4096 }
     ensures { result_of result table.new ≡ read_after password_at (load_line (fields_of line.now) serial expiry.0) table.old }
 {
-    let Some(particulars) = particulars_of(line, serial, expiry) else {
-        return Answer::Refused(Refusal::BadArgument);
-    };
-    let Some(key) = hex(field(line, 7)) else {
-        return Answer::Refused(Refusal::BadArgument);
-    };
+    let particulars = particulars_of(line, serial, expiry).ok_or(Refusal::BadArgument)?;
+    let key = hex(field(line, 7)).ok_or(Refusal::BadArgument)?;
     load(table, particulars, key.as_slice())
 }
 
@@ -55,9 +51,7 @@ fn challenge_line(table: &mut [u8], line: &[u8], serial: u64, clock: Seconds) ->
     requires { length line.now ≤ 4096 }
     ensures { result_of result table.new ≡ read_after password_at (challenge_line (fields_of line.now) serial clock.0) table.old }
 {
-    let Some(challenge) = hex(field(line, 2)) else {
-        return Answer::Refused(Refusal::BadArgument);
-    };
+    let challenge = hex(field(line, 2)).ok_or(Refusal::BadArgument)?;
     challenge_login(table, serial, clock, challenge.as_slice(), field(line, 3))
 }
 
@@ -66,9 +60,7 @@ fn sync_line(table: &mut [u8], line: &[u8], serial: u64, clock: Seconds) -> Answ
     requires { length line.now ≤ 4096 }
     ensures { result_of result table.new ≡ read_after password_at (sync_line (fields_of line.now) serial clock.0) table.old }
 {
-    let Some(choice) = byte_at(line, 2) else {
-        return Answer::Refused(Refusal::BadArgument);
-    };
+    let choice = byte_at(line, 2).ok_or(Refusal::BadArgument)?;
     sync(table, serial, clock, choice, field(line, 3), field(line, 4))
 }
 
@@ -97,18 +89,12 @@ pub(crate) fn call_line(table: &mut [u8], line: &[u8]) -> Answer
     requires { length line.now ≤ 4096 }
     ensures { result_of result table.new ≡ read_after password_at (call_line (fields_of line.now)) table.old }
 {
-    let Some(name) = name_of(field(line, 0)) else {
-        return Answer::Refused(Refusal::BadArgument);
-    };
+    let name = name_of(field(line, 0)).ok_or(Refusal::BadArgument)?;
     let count = name.count();
     if !has_fields(line, count) {
-        return Answer::Refused(Refusal::BadArgument);
+        return Err(Refusal::BadArgument);
     }
-    let Some(serial) = number_at(line, 1) else {
-        return Answer::Refused(Refusal::BadArgument);
-    };
-    let Some(clock) = number_at(line, count - 1) else {
-        return Answer::Refused(Refusal::BadArgument);
-    };
+    let serial = number_at(line, 1).ok_or(Refusal::BadArgument)?;
+    let clock = number_at(line, count - 1).ok_or(Refusal::BadArgument)?;
     named_line(table, line, name, serial, Seconds(clock))
 }

@@ -32,7 +32,7 @@ fn line_answer(table: &mut [u8], line: &[u8]) -> Answer
     ensures { result_of result table.new ≡ read_after password_at (reads_of line.now) table.old }
 {
     if LONGEST < line.len() {
-        return Answer::Refused(Refusal::BadArgument);
+        return Err(Refusal::BadArgument);
     }
     if same(field(line, 0), b"message") {
         return message_line(table, line);

@@ -22,9 +22,7 @@ fn message_in(table: &mut [u8], digits: &[u8], clock: Seconds) -> Answer
     ensures { result_of result table.new ≡ read_after password_at (message_in digits.now clock.0) table.old }
 {
     let mut bytes = [0u8; ROOM];
-    let Some(n) = hex_into(digits, &mut bytes) else {
-        return Answer::Refused(Refusal::BadArgument);
-    };
+    let n = hex_into(digits, &mut bytes).ok_or(Refusal::BadArgument)?;
     serve_message(table, &bytes[..n], clock)
 }
 
@@ -34,10 +32,8 @@ pub(crate) fn message_line(table: &mut [u8], line: &[u8]) -> Answer
     ensures { result_of result table.new ≡ read_after password_at (message_line (fields_of line.now)) table.old }
 {
     if !has_fields(line, 3) {
-        return Answer::Refused(Refusal::BadArgument);
+        return Err(Refusal::BadArgument);
     }
-    let Some(clock) = number_at(line, 2) else {
-        return Answer::Refused(Refusal::BadArgument);
-    };
+    let clock = number_at(line, 2).ok_or(Refusal::BadArgument)?;
     message_in(table, field(line, 1), Seconds(clock))
 }

@@ -81,7 +81,7 @@ pub(crate) fn answer_text(answer: Answer) -> Printed
 {
     let code = code_text(number_of(answer));
     match answer {
-        Answer::Success(_, content) => put_content(code, content),
-        Answer::Refused(_) => code,
+        Ok(success) => put_content(code, success.content),
+        Err(_) => code,
     }
 }

@@ -1,5 +1,5 @@
 -- What dl_check gives and leaves: the check of document 01, Part 3, by a token's numbers, with what document 02 adds to it.
-use Rattle.std.specs.Prelude.{ℕ, Bool, ◌&&◌, ◌||◌, not, cond, List, [], ◌∷◌, eqb, leb, ltb, length, drop}
+use Rattle.std.specs.Prelude.{ℕ, Bool, ◌&&◌, ◌||◌, not, cond, List, [], ◌∷◌, eqb, leb, ltb, length, drop, Option, Some, None}
 use Rattle.words.specs.Codes.{done, bad_argument}
 use Rattle.words.specs.Output.{Left}
 use Rattle.otp.specs.Typed.{password_ok, as_password}
@@ -15,7 +15,6 @@ use Rattle.window.specs.TokenCheck.{fresh_matches, single_check, pair_check}
 use Rattle.window.specs.Sweep.{computed_to, acceptances}
 use Rattle.row.specs.Row.{track_ok}
 use Rattle.desk.specs.Requests.{clock_ok}
-use Rattle.capi.specs.declared.checking.Presented.{Presented}
 use Rattle.capi.specs.Stored.{left}
 
 abbrev pub track_of : ℕ → ℕ → ℕ → ℕ → ℕ → ℕ → Track
@@ -53,9 +52,9 @@ asked_of size challenge presented following =
     (cond (eqb (length challenge) 0) (One size (as_password presented)) (Challenged size (as_password presented)))
     (Two size (as_password presented) (as_password following))
 
-unfoldable pub presented_of : Size → List ℕ → List ℕ → List ℕ → Presented
+unfoldable pub presented_of : Size → List ℕ → List ℕ → List ℕ → Option Asked
 presented_of size challenge presented following =
-    cond (passwords_ok challenge presented following) (Presented.Is (asked_of size challenge presented following)) Presented.Bad
+    cond (passwords_ok challenge presented following) (Some (asked_of size challenge presented following)) None
 
 -- ---- the check
 

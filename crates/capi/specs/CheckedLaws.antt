@@ -1,5 +1,5 @@
 -- The ways through dl_check.
-use Rattle.std.specs.Prelude.{ℕ, ◌≤◌, ◌<◌, ◌^◌, ◌≡◌, Bool, not, ◌&&◌, List, [], ◌∷◌, eqb, ltb, length, drop, set}
+use Rattle.std.specs.Prelude.{ℕ, ◌≤◌, ◌<◌, ◌^◌, ◌≡◌, Bool, not, ◌&&◌, List, [], ◌∷◌, eqb, ltb, length, drop, set, Option, Some, None}
 use Rattle.std.proofs.Math.Path.{refl, sym}
 use Rattle.std.proofs.Common.{ap, ◌∙◌, arith}
 use Rattle.std.proofs.Math.Bool.{true, false}
@@ -8,7 +8,6 @@ use Rattle.words.specs.BoolLaws.{and_left, and_right, and_true, and_false, by-te
 use Rattle.words.specs.Codes.{bad_argument}
 use Rattle.words.specs.Output.{Left}
 use Rattle.otp.specs.declared.typed.Password.{Password}
-use Rattle.otp.specs.declared.typed.Typed.{Typed}
 use Rattle.otp.specs.Typed.{password_ok, typed_of}
 use Rattle.otp.specs.TypedLaws.{digits-back, typed-is, typed-bad}
 use Rattle.window.specs.declared.Size.{Size}
@@ -22,41 +21,40 @@ use Rattle.window.specs.Sweep.{computed_of, fresh_of}
 use Rattle.row.specs.Row.{track_ok}
 use Rattle.row.specs.RangeLaws.{track-sound}
 use Rattle.desk.specs.Requests.{clock_ok}
-use Rattle.capi.specs.declared.checking.Presented.{Presented}
 use Rattle.capi.specs.Stored.{left}
 use Rattle.capi.specs.Checked.{size_of, check_numbers_ok, passwords_ok, check_arguments_ok, asked_of, presented_of, check_of, check_computed, check_fresh, checked, outcome_left, outcome_counted, room_for, check_left}
 
 -- ---- what is asked
 
-module _ (size : Size) (challenge presented following : List ℕ) {x : Typed} (first : x ≡ typed_of presented) where
-  pub presented-bad : x ≡ Typed.Bad → Presented.Bad ≡ presented_of size challenge presented following
+module _ (size : Size) (challenge presented following : List ℕ) {x : Option Password} (first : x ≡ typed_of presented) where
+  pub presented-bad : x ≡ None → None ≡ presented_of size challenge presented following
   unfolding presented_of passwords_ok
   presented-bad b = rw (typed-bad presented first b)
 
-  module _ {p : Password} (is : x ≡ Typed.Is p) where
+  module _ {p : Password} (is : x ≡ Some p) where
     ok : password_ok presented ≡ true
     ok = (typed-is presented first is).0
 
-    pub presented-one : length following ≡ 0 → length challenge ≡ 0 → Presented.Is (Asked.One size p) ≡ presented_of size challenge presented following
+    pub presented-one : length following ≡ 0 → length challenge ≡ 0 → Some (Asked.One size p) ≡ presented_of size challenge presented following
     unfolding presented_of passwords_ok
     presented-one n e = rw (ok, eq-eqb (length following) 0 n, eq-eqb (length challenge) 0 e, (typed-is presented first is).1)
 
-    pub presented-challenged : length following ≡ 0 → (length challenge ≡ 0 → ⊥) → Presented.Is (Asked.Challenged size p) ≡ presented_of size challenge presented following
+    pub presented-challenged : length following ≡ 0 → (length challenge ≡ 0 → ⊥) → Some (Asked.Challenged size p) ≡ presented_of size challenge presented following
     unfolding presented_of passwords_ok
     presented-challenged n e = rw (ok, eq-eqb (length following) 0 n, ne_eqb (length challenge) 0 e, (typed-is presented first is).1)
 
-    module _ (n : length following ≡ 0 → ⊥) {y : Typed} (second : y ≡ typed_of following) where
-      pub following-bad : y ≡ Typed.Bad → Presented.Bad ≡ presented_of size challenge presented following
+    module _ (n : length following ≡ 0 → ⊥) {y : Option Password} (second : y ≡ typed_of following) where
+      pub following-bad : y ≡ None → None ≡ presented_of size challenge presented following
       unfolding presented_of passwords_ok
       following-bad b = rw (ok, ne_eqb (length following) 0 n, typed-bad following second b, and_false (eqb (length challenge) 0))
 
-      module _ {q : Password} (and : y ≡ Typed.Is q) where
-        pub presented_two : length challenge ≤ 0 → Presented.Is (Asked.Two size p q) ≡ presented_of size challenge presented following
+      module _ {q : Password} (and : y ≡ Some q) where
+        pub presented_two : length challenge ≤ 0 → Some (Asked.Two size p q) ≡ presented_of size challenge presented following
         unfolding presented_of passwords_ok
         presented_two e =
             rw (ok, ne_eqb (length following) 0 n, eq-eqb (length challenge) 0 (omega arith), (typed-is following second and).0, (typed-is presented first is).1, (typed-is following second and).1)
 
-        pub pair-challenged : 0 < length challenge → Presented.Bad ≡ presented_of size challenge presented following
+        pub pair-challenged : 0 < length challenge → None ≡ presented_of size challenge presented following
         unfolding presented_of passwords_ok
         pair-challenged l = rw (ok, ne_eqb (length following) 0 n, ne_eqb (length challenge) 0 (λ e. omega arith))
 
@@ -134,26 +132,26 @@ module _ (k : Track) (clock size : ℕ) (key challenge step computed fresh : Lis
         let i : in_range k.scheme key challenge ≡ true = search (and_left, and_right) depth 8 in
         (track-sound k o clock (ltb-true clock (2 ^ 40) c), i)
 
-    module _ (presented following : List ℕ) {z : Size} {x : Presented} (sized : z ≡ size_of size) (read : x ≡ presented_of z challenge presented following) where
-      pub check_unread : x ≡ Presented.Bad → checked bad_argument step computed fresh ≡ check_left k clock size key challenge presented following step computed fresh
+    module _ (presented following : List ℕ) {z : Size} {x : Option Asked} (sized : z ≡ size_of size) (read : x ≡ presented_of z challenge presented following) where
+      pub check_unread : x ≡ None → checked bad_argument step computed fresh ≡ check_left k clock size key challenge presented following step computed fresh
       unfolding presented_of check_arguments_ok check_left
       check_unread e =
           by-test (passwords_ok challenge presented following)
-          (λ p. let y : Presented.Is (asked_of z challenge presented following) ≡ Presented.Bad = sym (read ∙ rw p) ∙ e in impossible (cc))
+          (λ p. let y : Some (asked_of z challenge presented following) ≡ None = sym (read ∙ rw p) ∙ e in impossible (cc))
           (λ p. rw (p, and_false (check_numbers_ok k clock size key challenge)))
 
-      pub check_made : {asked : Asked} {r : Swept} → x ≡ Presented.Is asked → r.outcome ≡ outcome_of password_at k clock key challenge asked
+      pub check_made : {asked : Asked} {r : Swept} → x ≡ Some asked → r.outcome ≡ outcome_of password_at k clock key challenge asked
           → r.computed ≡ computed_of password_at k clock key challenge asked → r.fresh ≡ fresh_of password_at k clock key challenge asked
           → outcome_counted r.outcome r.computed r.fresh step computed fresh ≡ check_left k clock size key challenge presented following step computed fresh
       unfolding presented_of check_arguments_ok check_left
       check_made {asked} e m c f =
           by-test (passwords_ok challenge presented following)
           (λ p.
-          let y : Presented.Is (asked_of z challenge presented following) ≡ Presented.Is asked = sym (read ∙ rw p) ∙ e in
+          let y : Some (asked_of z challenge presented following) ≡ Some asked = sym (read ∙ rw p) ∙ e in
           let a : asked ≡ asked_of z challenge presented following = cc in
           let found = asked-found k clock z key challenge presented following p in
           rw (ranged, p, roomy, m, c, f, a, found.0, asked-computed k clock z key challenge presented following p, found.1, sized))
-          (λ p. let y : Presented.Bad ≡ Presented.Is asked = sym (read ∙ rw p) ∙ e in impossible (cc))
+          (λ p. let y : None ≡ Some asked = sym (read ∙ rw p) ∙ e in impossible (cc))
 
 -- the first element is written
 pub write_first : (s : List ℕ) (x : ℕ) → 0 < length s → set s 0 x ≡ x ∷ drop 1 s

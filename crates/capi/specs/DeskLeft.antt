@@ -1,10 +1,10 @@
 -- What the desk's C functions give and leave: the answer's number and values, and the table (document 01, Part 5).
-use Rattle.std.specs.Prelude.{ℕ, ◌-◌, ◌^◌, cond, List, [], ◌∷◌, ◌++◌, leb, length, drop}
+use Rattle.token.specs.Answers.{Answer}
+use Rattle.std.specs.Prelude.{ℕ, ◌-◌, ◌^◌, cond, List, [], ◌∷◌, ◌++◌, leb, length, drop, Err, Ok}
 use Rattle.words.specs.Codes.{bad_argument}
 use Rattle.words.specs.Output.{Left}
 use Rattle.window.specs.PasswordAt.{password_at}
 use Rattle.token.specs.declared.answers.Content.{Content}
-use Rattle.token.specs.declared.answers.Answer.{Answer}
 use Rattle.token.specs.Codes.{Signed, number_of, values_of}
 use Rattle.desk.specs.declared.Particulars.{Particulars}
 use Rattle.desk.specs.Requests.{DeskCall}
@@ -51,8 +51,8 @@ abbrev pub content_left : Content → List ℕ → List ℕ
 content_left content values = words (values_of content) ++ drop (length (words (values_of content))) values
 
 abbrev pub answer_left : Answer → List ℕ → List ℕ
-answer_left (Answer.Success number content) values = content_left content values
-answer_left (Answer.Refused refusal) values = values
+answer_left (Ok success) values = content_left success.content values
+answer_left (Err refusal) values = values
 
 abbrev pub result_left : Result → List ℕ → DeskLeft
 result_left r values = left_with (number_of r.answer) r.table (answer_left r.answer values)

@@ -1,4 +1,5 @@
 -- What each branch of a desk's C function returns.
+use Rattle.token.specs.Answers.{Answer}
 use Rattle.std.specs.Prelude.{ℕ, ◌+◌, ◌-◌, ◌≤◌, ◌<◌, ◌≡◌, refl, List, [], ◌∷◌, length, set}
 use Rattle.std.proofs.Common.{ap, arith, le-leb}
 use Rattle.std.proofs.lemmas.Bool.{lt-leb}
@@ -8,7 +9,6 @@ use Rattle.window.specs.declared.Offset.{Offset}
 use Rattle.window.specs.PasswordAt.{password_at}
 use Rattle.token.specs.declared.answers.Status.{Status}
 use Rattle.token.specs.declared.answers.Content.{Content}
-use Rattle.token.specs.declared.answers.Answer.{Answer}
 use Rattle.token.specs.Codes.{signed_of, values_of, number_of}
 use Rattle.desk.specs.Requests.{DeskCall}
 use Rattle.desk.specs.Desk.{Result, result_of, desk_after}

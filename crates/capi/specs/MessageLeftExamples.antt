@@ -6,7 +6,7 @@ use Rattle.words.specs.Words.{◌⋘◌}
 use Rattle.words.specs.Output.{Left, stored}
 use Rattle.sm3.specs.Sm3.{sm3_of, padded, zeros_after, words_at, next_word, expand, round, round_with, rounds, ff, gg, compressed, iterated, digest}
 use Rattle.message.specs.Message.{item_bytes, items_bytes, body_bytes, head_bytes, mac_of, items_at, items_end, all_plain, lengths_add_up, attributes_plain, message_at, frame_fits, frame_of, mac_fits}
-use Rattle.message.specs.Reading.{read_of, place_of}
+use Rattle.message.specs.Reading.{read_of, places}
 use Rattle.message.specs.Writing.{message_bytes, holds, writable, write_answer, items_as_lent, together, items_lent}
 use Rattle.message.specs.FormTable.{plain_reply, sealed_reply, damaged_reply}
 use Rattle.capi.specs.Stored.{left}
@@ -20,7 +20,7 @@ unfolding read_left read_of frame_of frame_fits lengths_add_up attributes_plain 
 fields_of message fields = read_left message fields
 
 unfoldable pub item_fields : List ℕ → ℕ → List ℕ → Left
-unfolding item_left read_of place_of frame_of frame_fits lengths_add_up attributes_plain message_at items_at items_end all_plain mac_fits be_at same_bytes
+unfolding item_left read_of places frame_of frame_fits lengths_add_up attributes_plain message_at items_at items_end all_plain mac_fits be_at same_bytes
     sm3_of padded zeros_after words_at next_word expand round round_with rounds ff gg compressed iterated digest be_bytes ◌⋘◌
 item_fields message index fields = item_left message index fields
 

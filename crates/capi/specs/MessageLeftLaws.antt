@@ -1,41 +1,18 @@
 -- What each branch of reading and writing a message through C returns.
-use Rattle.std.specs.Prelude.{ℕ, zero, suc, ◌≤◌, ◌<◌, ◌≡◌, refl, List, [], ◌∷◌, ◌++◌, length, set, drop}
+use Rattle.std.specs.Prelude.{ℕ, zero, suc, ◌≤◌, ◌<◌, ◌≡◌, refl, List, [], ◌∷◌, ◌++◌, length, set, drop, Option, Some, None, Result, Ok, Err}
 use Rattle.std.proofs.Common.{arith}
-use borrow.Author.Tests.{le-leb, lt-leb, eq-eqb, ne_eqb}
+use borrow.Author.Tests.{le-leb, lt-leb}
+use Rattle.words.specs.declared.codes.BadArgument.{BadArgument}
 use Rattle.words.specs.Codes.{done, bad_argument}
 use Rattle.token.specs.declared.answers.Refusal.{Refusal}
-use Rattle.token.specs.declared.answers.Answer.{Answer}
 use Rattle.token.specs.Codes.{number_of}
 use Rattle.message.specs.declared.reading.Heading.{Heading}
 use Rattle.message.specs.declared.reading.Reading.{Reading}
-use Rattle.message.specs.declared.reading.ItemPlace.{ItemPlace}
-use Rattle.message.specs.declared.reading.ItemRead.{ItemRead}
-use Rattle.message.specs.declared.writing.Written.{Written}
+use Rattle.message.specs.declared.items.ItemPlace.{ItemPlace}
 use Rattle.message.specs.Reading.{read_of, reading_of, item_of}
-use Rattle.message.specs.Writing.{wrote, items_lent, write_lent}
+use Rattle.message.specs.Writing.{Written, wrote, items_lent, write_lent}
 use Rattle.capi.specs.Stored.{left}
-use Rattle.capi.specs.MessageLeft.{heading_fields, place_fields, read_left, item_left, wrote_left, write_left}
-
--- ---- stores, one by one
-
-pub six-put : (a b c d e f : ℕ) (s : List ℕ) → 6 ≤ length s → set (set (set (set (set (set s 0 a) 1 b) 2 c) 3 d) 4 e) 5 f ≡ (a ∷ b ∷ c ∷ d ∷ e ∷ f ∷ []) ++ drop 6 s
-six-put a b c d e f [] l = absurd (omega arith)
-six-put a b c d e f (s₀ ∷ []) l = absurd (omega arith)
-six-put a b c d e f (s₀ ∷ s₁ ∷ []) l = absurd (omega arith)
-six-put a b c d e f (s₀ ∷ s₁ ∷ s₂ ∷ []) l = absurd (omega arith)
-six-put a b c d e f (s₀ ∷ s₁ ∷ s₂ ∷ s₃ ∷ []) l = absurd (omega arith)
-six-put a b c d e f (s₀ ∷ s₁ ∷ s₂ ∷ s₃ ∷ s₄ ∷ []) l = absurd (omega arith)
-six-put a b c d e f (s₀ ∷ s₁ ∷ s₂ ∷ s₃ ∷ s₄ ∷ s₅ ∷ s) l = refl
-
-pub three-put : (a b c : ℕ) (s : List ℕ) → 3 ≤ length s → set (set (set s 0 a) 1 b) 2 c ≡ (a ∷ b ∷ c ∷ []) ++ drop 3 s
-three-put a b c [] l = absurd (omega arith)
-three-put a b c (s₀ ∷ []) l = absurd (omega arith)
-three-put a b c (s₀ ∷ s₁ ∷ []) l = absurd (omega arith)
-three-put a b c (s₀ ∷ s₁ ∷ s₂ ∷ s) l = refl
-
-one-put : (a : ℕ) (s : List ℕ) → 1 ≤ length s → set s 0 a ≡ a ∷ drop 1 s
-one-put a [] l = absurd (omega arith)
-one-put a (s₀ ∷ s) l = refl
+use Rattle.capi.specs.MessageLeft.{reading_fields, place_fields, read_left, item_left, wrote_left, write_left}
 
 -- ---- reading
 
@@ -44,13 +21,12 @@ module _ (message fields : List ℕ) where
   unfolding read_left
   read_short l = rw (lt-leb 6 (length fields) l)
 
-  module _ (room : 6 ≤ length fields) {r : Reading} (read : r ≡ reading_of (read_of message)) where
-    pub read-refused : {refusal : Refusal} → r ≡ Reading.Refused refusal → {code : ℕ} → code ≡ number_of (Answer.Refused refusal) → left code fields ≡ read_left message fields
+  module _ (room : 6 ≤ length fields) {r : Result Reading Refusal} (read : r ≡ reading_of (read_of message)) where
+    pub read-refused : {refusal : Refusal} → r ≡ Err refusal → {code : ℕ} → code ≡ number_of (Err refusal) → left code fields ≡ read_left message fields
     unfolding read_left
     read-refused e n = rw (le-leb 6 (length fields) room, ← read, e, n)
 
-    pub read_done : {heading : Heading} {count : ℕ} → r ≡ Reading.Read heading count → {after : List ℕ} → after ≡ heading_fields heading count ++ drop 6 fields
-        → left done after ≡ read_left message fields
+    pub read_done : {reading : Reading} → r ≡ Ok reading → {after : List ℕ} → after ≡ reading_fields reading ++ drop 6 fields → left done after ≡ read_left message fields
     unfolding read_left
     read_done e p = rw (le-leb 6 (length fields) room, ← read, e, p)
 
@@ -61,20 +37,24 @@ module _ (message : List ℕ) (index : ℕ) (fields : List ℕ) where
   unfolding item_left
   item-short l = rw (lt-leb 3 (length fields) l)
 
-  module _ (room : 3 ≤ length fields) {r : ItemRead} (found : r ≡ item_of message index) where
-    pub item_refused : {refusal : Refusal} → r ≡ ItemRead.Refused refusal → {code : ℕ} → code ≡ number_of (Answer.Refused refusal) → left code fields ≡ item_left message index fields
+  module _ (room : 3 ≤ length fields) {r : Result (Option ItemPlace) Refusal} (found : r ≡ item_of message index) where
+    pub item_refused : {refusal : Refusal} → r ≡ Err refusal → {code : ℕ} → code ≡ number_of (Err refusal) → left code fields ≡ item_left message index fields
     unfolding item_left
     item_refused e n = rw (le-leb 3 (length fields) room, ← found, e, n)
 
-    pub item-none : r ≡ ItemRead.Nothing → left bad_argument fields ≡ item_left message index fields
+    pub item-none : r ≡ Ok None → left bad_argument fields ≡ item_left message index fields
     unfolding item_left
     item-none e = rw (le-leb 3 (length fields) room, ← found, e)
 
-    pub item-done : {place : ItemPlace} → r ≡ ItemRead.Is place → {after : List ℕ} → after ≡ place_fields place ++ drop 3 fields → left done after ≡ item_left message index fields
+    pub item-done : {place : ItemPlace} → r ≡ Ok (Some place) → {after : List ℕ} → after ≡ place_fields place ++ drop 3 fields → left done after ≡ item_left message index fields
     unfolding item_left
     item-done e p = rw (le-leb 3 (length fields) room, ← found, e, p)
 
 -- ---- writing
+
+one-put : (a : ℕ) (s : List ℕ) → 1 ≤ length s → set s 0 a ≡ a ∷ drop 1 s
+one-put a [] l = absurd (omega arith)
+one-put a (s₀ ∷ s) l = refl
 
 module _ (h : Heading) (identifiers lengths contents out written : List ℕ) where
   pub write_short : length written ≡ 0 → wrote_left bad_argument out written ≡ write_left h identifiers lengths contents out written
@@ -89,10 +69,10 @@ module _ (h : Heading) (identifiers lengths contents out written : List ℕ) whe
         by zero e = absurd (room e)
         by (suc n) e = omega arith
 
-    pub write_refused : (w.code ≡ done → ⊥) → wrote_left w.code after written ≡ write_left h identifiers lengths contents out written
+    pub write_refused : {refused : BadArgument} → w ≡ Err refused → wrote_left bad_argument after written ≡ write_left h identifiers lengths contents out written
     unfolding write_left
-    write_refused d = rw (le-leb 1 (length written) some-room, ← left_is, ne_eqb w.code done d)
+    write_refused e = rw (le-leb 1 (length written) some-room, ← left_is, e)
 
-    pub write_done : w.code ≡ done → wrote_left done after (set written 0 w.len) ≡ write_left h identifiers lengths contents out written
+    pub write_done : {n : ℕ} → w ≡ Ok n → wrote_left done after (set written 0 n) ≡ write_left h identifiers lengths contents out written
     unfolding write_left
-    write_done e = rw (le-leb 1 (length written) some-room, ← left_is, eq-eqb w.code done e, e, one-put w.len written some-room)
+    write_done {n} e = rw (le-leb 1 (length written) some-room, ← left_is, e, one-put n written some-room)

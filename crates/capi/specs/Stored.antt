@@ -1,7 +1,7 @@
 -- The C functions give a code and store their result in a lent output.
-use Rattle.std.specs.Prelude.{ℕ, List, cond, eqb}
-use Rattle.words.specs.Output.{Left, stored}
-use Rattle.otp.specs.Password.{password_answer}
+use Rattle.std.specs.Prelude.{ℕ, List, cond, eqb, Some, None}
+use Rattle.words.specs.Output.{Left, stored, answer_left}
+use Rattle.otp.specs.Password.{password_answer, Factor}
 use Rattle.otp.specs.declared.Factor.{Factor}
 use Rattle.otp.specs.declared.Factor.TheVariants.{Absent, Present}
 use Rattle.sm3.specs.Sm3.{sm3_answer}
@@ -12,7 +12,7 @@ abbrev pub left : ℕ → List ℕ → Left
 left code out = record { code = code; out = out }
 
 abbrev pub sm3_left : List ℕ → List ℕ → Left
-sm3_left message out = stored (sm3_answer message).code (sm3_answer message).digest out
+sm3_left message out = answer_left (sm3_answer message) out
 
 abbrev pub sm4_left : List ℕ → List ℕ → List ℕ → Left
 sm4_left key block out = stored (sm4_answer key block).code (sm4_answer key block).block out
@@ -25,7 +25,7 @@ encrypt_left keys block out = stored (encrypt_answer keys block).code (encrypt_a
 
 -- a factor with a flag beside its number: 0 says that it is absent
 unfoldable pub factor_of : ℕ → ℕ → Factor
-factor_of flag number = cond (eqb flag 0) Absent (Present number)
+factor_of flag number = cond (eqb flag 0) None (Some number)
 
 abbrev pub password_left : ℕ → List ℕ → ℕ → ℕ → ℕ → ℕ → List ℕ → ℕ → List ℕ → Left
 password_left algorithm key hasTime time hasCount count challenge digits out =

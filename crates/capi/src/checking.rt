@@ -3,7 +3,7 @@ ghost use Rattle.std.specs.Prelude.{◌≡◌, ◌<◌, length};
 ghost use Rattle.capi.specs.Stored.{left};
 ghost use Rattle.capi.specs.Checked.{track_of, size_of, presented_of, check_numbers_ok, checked, outcome_left, check_left};
 
-use otp::typed::{Typed, password_of};
+use otp::typed::password_of;
 use row::track_ok;
 use window::{Asked, CLOCKS, Offset, Outcome, Scheme, Seconds, Size, Step, Track, check, in_range};
 use words::codes::{BAD_ARGUMENT, DONE};
@@ -27,33 +27,22 @@ fn size_of(number: u8) -> Size
     Size::Large
 }
 
-// What is asked of the window, where the passwords are in range.
-#[derive(Clone, Copy)]
-pub enum Presented {
-    Is(Asked),
-    Bad,
-}
-
-// One password, with its challenge where there is one, or two as a pair, which has no challenge.
-fn presented_of(size: Size, challenge: &[u8], presented: &[u8], following: &[u8]) -> Presented
+// What is asked of the window, where the passwords are in range: one password, with its challenge where there is one, or two as a pair, which has no challenge.
+fn presented_of(size: Size, challenge: &[u8], presented: &[u8], following: &[u8]) -> Option<Asked>
     ensures { result ≡ presented_of size challenge.now presented.now following.now }
 {
-    let Typed::Is(p) = password_of(presented) else {
-        return Presented::Bad;
-    };
+    let p = password_of(presented)?;
     if following.len() == 0 {
         if challenge.len() == 0 {
-            return Presented::Is(Asked::One(size, p));
+            return Some(Asked::One(size, p));
         }
-        return Presented::Is(Asked::Challenged(size, p));
+        return Some(Asked::Challenged(size, p));
     }
-    let Typed::Is(q) = password_of(following) else {
-        return Presented::Bad;
-    };
+    let q = password_of(following)?;
     if 0 < challenge.len() {
-        return Presented::Bad;
+        return None;
     }
-    Presented::Is(Asked::Two(size, p, q))
+    Some(Asked::Two(size, p, q))
 }
 
 // Whether the other arguments are in the ranges of document 01, Parts 2 to 4.
@@ -119,7 +108,7 @@ pub extern "C" fn dl_check(
     if !(ok & room) {
         return BAD_ARGUMENT;
     }
-    let Presented::Is(asked) = presented_of(size_of(size), challenge, presented, following) else {
+    let Some(asked) = presented_of(size_of(size), challenge, presented, following) else {
         return BAD_ARGUMENT;
     };
     let swept = check(track, Seconds(clock), key, challenge, asked);

@@ -15,15 +15,17 @@ use otp::{Factor, password};
 use sm3::sm3;
 use sm4::{encrypt, round_keys, sm4};
 use store::{store, store_words};
+use words::codes::{BAD_ARGUMENT, DONE};
 
 // SM3 of the message, into the first 32 bytes of out.
 #[unsafe(no_mangle)]
 pub extern "C" fn dl_sm3(message: &[u8], out: &mut [u8]) -> u16
     ensures { left result out.new ≡ sm3_left message.now out.old }
 {
-    let hash = sm3(message);
-    let digest = hash.digest;
-    store(hash.code, &digest, out)
+    match sm3(message) {
+        Ok(digest) => store(DONE, &digest, out),
+        Err(_) => BAD_ARGUMENT,
+    }
 }
 
 // SM4 of the block under the key, into the first 16 bytes of out.
@@ -60,10 +62,7 @@ pub extern "C" fn dl_sm4_encrypt(keys: &[u32], block: &[u8], out: &mut [u8]) -> 
 fn factor(flag: u8, number: u64) -> Factor
     ensures { result ≡ factor_of flag number }
 {
-    if flag == 0 {
-        return Factor::Absent;
-    }
-    Factor::Present(number)
+    (flag != 0).then_some(number)
 }
 
 // The password of the given factors, into the first `digits` bytes of out.
@@ -83,5 +82,8 @@ pub extern "C" fn dl_password(
 {
     let at = factor(has_time, time);
     let number = factor(has_count, count as u64);
-    password(algorithm, key, at, number, challenge, digits as usize, out)
+    match password(algorithm, key, at, number, challenge, digits as usize, out) {
+        Ok(()) => DONE,
+        Err(BadArgument) => BAD_ARGUMENT,
+    }
 }

@@ -1,27 +1,31 @@
 // Messages read and written (document 02, Ask 3).
 ghost use Rattle.std.specs.Prelude.{◌≡◌, ◌++◌, ◌≤◌, length, drop};
 ghost use Rattle.capi.specs.Stored.{left};
-ghost use Rattle.capi.specs.MessageLeft.{heading_fields, place_fields, read_left, item_left, wrote_left, write_left, heading_for};
+ghost use Rattle.capi.specs.MessageLeft.{reading_fields, place_fields, read_left, item_left, wrote_left, write_left, heading_for};
 
-use message::{Heading, ItemPlace, ItemRead, Reading, item, read_message, write_message};
-use token::{Answer, number_of};
-use words::codes::{BAD_ARGUMENT, DONE};
+use message::{Heading, ItemPlace, Reading, item, read_message, write_message};
+use token::number_of;
+use words::codes::{BAD_ARGUMENT, BadArgument, DONE};
 
 const MESSAGE_FIELDS: usize = 6;
 
 const ITEM_FIELDS: usize = 3;
 
 // What a message says, at the front of fields.
-fn put_heading(heading: Heading, count: usize, fields: &mut [u64])
+fn put_reading(reading: Reading, fields: &mut [u64])
     requires { 6 ≤ length fields.old }
-    ensures { fields.new ≡ heading_fields heading count ++ drop 6 fields.old }
+    ensures { fields.new ≡ reading_fields reading ++ drop 6 fields.old }
 {
-    fields[0] = heading.kind as u64;
-    fields[1] = heading.caller;
-    fields[2] = heading.number;
-    fields[3] = heading.service as u64;
-    fields[4] = heading.options as u64;
-    fields[5] = count as u64;
+    let heading = reading.heading;
+    let front = &mut fields[0..MESSAGE_FIELDS];
+    front.copy_from_slice(&[
+        heading.kind as u64,
+        heading.caller,
+        heading.number,
+        heading.service as u64,
+        heading.options as u64,
+        reading.count as u64,
+    ]);
 }
 
 // An item's identifier, place and length, at the front of fields.
@@ -30,9 +34,12 @@ fn put_place(place: ItemPlace, fields: &mut [u64])
     requires start_le_end { place.start ≤ place.end }
     ensures { fields.new ≡ place_fields place ++ drop 3 fields.old }
 {
-    fields[0] = place.identifier as u64;
-    fields[1] = place.start as u64;
-    fields[2] = (place.end - place.start) as u64;
+    let front = &mut fields[0..ITEM_FIELDS];
+    front.copy_from_slice(&[
+        place.identifier as u64,
+        place.start as u64,
+        (place.end - place.start) as u64,
+    ]);
 }
 
 // Reads a message, request or reply.
@@ -44,11 +51,11 @@ pub extern "C" fn dl_message_read(message: &[u8], fields: &mut [u64]) -> u16
         return BAD_ARGUMENT;
     }
     match read_message(message) {
-        Reading::Refused(refusal) => number_of(Answer::Refused(refusal)),
-        Reading::Read(heading, count) => {
-            put_heading(heading, count, fields);
+        Ok(reading) => {
+            put_reading(reading, fields);
             DONE
         }
+        Err(refusal) => number_of(Err(refusal)),
     }
 }
 
@@ -61,12 +68,12 @@ pub extern "C" fn dl_message_item(message: &[u8], index: usize, fields: &mut [u6
         return BAD_ARGUMENT;
     }
     match item(message, index) {
-        ItemRead::Refused(refusal) => number_of(Answer::Refused(refusal)),
-        ItemRead::Nothing => BAD_ARGUMENT,
-        ItemRead::Is(place) => {
+        Ok(Some(place)) => {
             put_place(place, fields);
             DONE
         }
+        Ok(None) => BAD_ARGUMENT,
+        Err(refusal) => number_of(Err(refusal)),
     }
 }
 
@@ -96,10 +103,11 @@ pub extern "C" fn dl_message_write(
         service,
         options,
     };
-    let wrote = write_message(heading, identifiers, lengths, contents, out);
-    if wrote.code != DONE {
-        return wrote.code;
+    match write_message(heading, identifiers, lengths, contents, out) {
+        Ok(len) => {
+            written[0] = len as u64;
+            DONE
+        }
+        Err(BadArgument) => BAD_ARGUMENT,
     }
-    written[0] = wrote.len as u64;
-    DONE
 }

@@ -5,7 +5,6 @@ ghost use Rattle.capi.specs.Stored.{left};
 
 use words::bytes::copy;
 use words::codes::{BAD_ARGUMENT, DONE};
-use words::word::copy_words;
 
 pub(crate) fn store(code: u16, res: &[u8], out: &mut [u8]) -> u16
     ensures { left result out.new ≡ stored code res.now out.old }
@@ -29,6 +28,6 @@ pub(crate) fn store_words(code: u16, res: &[u32], out: &mut [u32]) -> u16
     if out.len() < res.len() {
         return BAD_ARGUMENT;
     }
-    copy_words(res, out);
+    copy(res, out);
     DONE
 }

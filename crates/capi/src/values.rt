@@ -46,9 +46,8 @@ pub(crate) fn put_answer(answer: Answer, values: &mut [u64]) -> u16
     ensures value { result ≡ number_of answer }
     ensures values_after { values.new ≡ answer_left answer values.old }
 {
-    if let Answer::Success(_, content) = answer {
-        put_content(content, values);
-        return number_of(answer);
+    if let Ok(success) = answer {
+        put_content(success.content, values);
     }
     number_of(answer)
 }

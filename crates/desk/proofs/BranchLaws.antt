@@ -1,5 +1,6 @@
 -- The branches of a call, walked once: what is shown of each answer that the call may come to, with what is known there, holds of the call's result.
-use Rattle.std.specs.Prelude.{ℕ, zero, suc, ◌+◌, ◌<◌, ◌≡◌, refl, true, false, ◌&&◌, List, eqb, leb, get_or}
+use Rattle.token.specs.Answers.{Answer, successful}
+use Rattle.std.specs.Prelude.{ℕ, zero, suc, ◌+◌, ◌<◌, ◌≡◌, refl, true, false, ◌&&◌, List, eqb, leb, get_or, Some, None, Err}
 use Rattle.std.proofs.Common.{arith, leb-true}
 use Rattle.std.proofs.lemmas.Bool.{not-true}
 use Rattle.words.specs.BoolLaws.{and_left, and_right, either, either-by, clash}
@@ -13,13 +14,11 @@ use Rattle.window.specs.PasswordAt.{PasswordRule}
 use Rattle.window.specs.Asked.{outcome_of}
 use Rattle.window.proofs.Meaning.{pair_means}
 use Rattle.row.specs.declared.Row.{Row}
-use Rattle.row.specs.declared.reading.Place.{Place}
 use Rattle.row.specs.Row.{row_bytes, last_state, row_at, number_tests, numbers_ok, well_formed}
-use Rattle.row.specs.Table.{is_empty, has_serial, find_row, find_empty, located_at, located, write_row}
+use Rattle.row.specs.Table.{Place, is_empty, has_serial, find_row, find_empty, located_at, located, write_row}
 use Rattle.row.specs.FoundLaws.{found-has}
 use Rattle.token.specs.declared.answers.Content.{Content}
 use Rattle.token.specs.declared.answers.Refusal.{Refusal}
-use Rattle.token.specs.declared.answers.Answer.{Answer}
 use Rattle.token.specs.declared.lines.Fails.{Fails}
 use Rattle.token.specs.declared.lines.Way.{Way}
 use Rattle.token.specs.declared.lines.Line.{Line}
@@ -104,7 +103,7 @@ pub record Fit (request : Request) (clock : ℕ) (s : List ℕ) : Type 0 where
 -- and it goes on with the well_formed_lem row at a place
 pub record Reached (request : Request) (serial clock : ℕ) (s : List ℕ) (at : ℕ) : Type 0 where
   pub fit : Fit request clock s
-  pub found : find_row row_bytes s serial ≡ Place.At at
+  pub found : find_row row_bytes s serial ≡ Some at
   pub formed : well_formed last_state s at ≡ true
 
 -- the row at a place once a wait has run out
@@ -131,32 +130,32 @@ module _ (passwords : PasswordRule) (s : List ℕ) (P : Result → Type 0) where
   -- it holds of a load's answers
   pub record LoadHolds (p : Particulars) (key : List ℕ) : Type 0 where
     pub bad : table_ok row_bytes s && load_ok p key ≡ false → P (refused Refusal.BadArgument s)
-    pub taken : LoadFit p key s → (other : ℕ) → find_row row_bytes s p.serial ≡ Place.At other → P (refused Refusal.AlreadyLoaded s)
-    pub full : LoadFit p key s → find_row row_bytes s p.serial ≡ Place.Nowhere → find_empty row_bytes s ≡ Place.Nowhere
+    pub taken : LoadFit p key s → (other : ℕ) → find_row row_bytes s p.serial ≡ Some other → P (refused Refusal.AlreadyLoaded s)
+    pub full : LoadFit p key s → find_row row_bytes s p.serial ≡ None → find_empty row_bytes s ≡ None
         → P (refused Refusal.TableFull s)
-    pub made : LoadFit p key s → find_row row_bytes s p.serial ≡ Place.Nowhere → (at : ℕ) → find_empty row_bytes s ≡ Place.At at
-        → P (result_of (Answer.Success 0x0140 Content.Plain) (write_row s at (loaded_row p key) key))
+    pub made : LoadFit p key s → find_row row_bytes s p.serial ≡ None → (at : ℕ) → find_empty row_bytes s ≡ Some at
+        → P (result_of (successful 0x0140 Content.Plain) (write_row s at (loaded_row p key) key))
 
   module _ (p : Particulars) (key : List ℕ) (h : LoadHolds p key) where
     pub load-holds : P (desk_after passwords (DeskCall.load p key) s)
     unfolding desk_after
     load-holds = either-by P (table_ok row_bytes s && load_ok p key) (λ t. beside (record { table = search (and_left); values = search (and_right) }) (find_row row_bytes s p.serial) refl) h.bad
       where
-        placed : LoadFit p key s → find_row row_bytes s p.serial ≡ Place.Nowhere → (place : Place) → find_empty row_bytes s ≡ place
+        placed : LoadFit p key s → find_row row_bytes s p.serial ≡ None → (place : Place) → find_empty row_bytes s ≡ place
             → P (loaded_at p key s place)
-        placed fit none (Place.At at) e = h.made fit none at e
-        placed fit none Place.Nowhere e = h.full fit none e
+        placed fit none (Some at) e = h.made fit none at e
+        placed fit none None e = h.full fit none e
 
         beside : LoadFit p key s → (place : Place) → find_row row_bytes s p.serial ≡ place → P (loaded_beside p key s place)
-        beside fit (Place.At other) e = h.taken fit other e
-        beside fit Place.Nowhere e = placed fit e (find_empty row_bytes s) refl
+        beside fit (Some other) e = h.taken fit other e
+        beside fit None e = placed fit e (find_empty row_bytes s) refl
 
   module _ (request : Request) (serial clock : ℕ) where
     -- it holds of the answers to a call that names a token
     pub record NamedHolds : Type 0 where
       pub bad : table_ok row_bytes s && (clock_ok clock && request_ok request) ≡ false → P (refused Refusal.BadArgument s)
-      pub unknown : Fit request clock s → find_row row_bytes s serial ≡ Place.Nowhere → P (refused Refusal.Unknown s)
-      pub damaged : Fit request clock s → (at : ℕ) → find_row row_bytes s serial ≡ Place.At at → well_formed last_state s at ≡ false → P (refused Refusal.Damaged s)
+      pub unknown : Fit request clock s → find_row row_bytes s serial ≡ None → P (refused Refusal.Unknown s)
+      pub damaged : Fit request clock s → (at : ℕ) → find_row row_bytes s serial ≡ Some at → well_formed last_state s at ≡ false → P (refused Refusal.Damaged s)
       pub unfit : (at : ℕ) → Reached request serial clock s at → allowed (line_for request).needs (row_now s at clock).state ≡ false
           → P (stored s at (refusing (state_refusal (row_now s at clock).state) (row_now s at clock)))
       pub made : (at : ℕ) → Reached request serial clock s at → allowed (line_for request).needs (row_now s at clock).state ≡ true
@@ -169,10 +168,10 @@ module _ (passwords : PasswordRule) (s : List ℕ) (P : Result → Type 0) where
 
       placed-holds : Fit request clock s → (place : Place) → find_row row_bytes s serial ≡ place
           → P (served_from passwords (valued request) (challenge_of request) clock s (located_at last_state s place))
-      placed-holds fit (Place.At at) e =
+      placed-holds fit (Some at) e =
           either-by (λ x. P (served_from passwords (valued request) (challenge_of request) clock s x)) (well_formed last_state s at)
           (λ ok. reached-holds at (record { fit = fit; found = e; formed = ok })) (h.damaged fit at e)
-      placed-holds fit Place.Nowhere e = h.unknown fit e
+      placed-holds fit None e = h.unknown fit e
 
       pub named-holds : P (desk_after passwords (DeskCall.named request serial clock) s)
       unfolding desk_after located
@@ -192,7 +191,7 @@ module _ (Q : Answer → Type 0) where
   Succeeds l w clock check Way.Tells = Q (telling l w).answer
   Succeeds l w clock check (Way.Checks asked f) = (a : Step) → check w.track asked ≡ Outcome.Accepted a → Q (judging l f w clock (Outcome.Accepted a)).answer
 
-  module _ (refusals : (f : Refusal) → Q (Answer.Refused f)) (passwords : PasswordRule) (s : List ℕ) where
+  module _ (refusals : (f : Refusal) → Q (Err f)) (passwords : PasswordRule) (s : List ℕ) where
     succeeds-done : (l : Line) (w : Row) (clock : ℕ) (check : Track → Asked → Outcome) (way : Way) → Succeeds l w clock check way
         → Done l w clock (λ d. Q d.answer) check way
     succeeds-done l w clock check Way.Changes q = q
@@ -207,7 +206,7 @@ module _ (Q : Answer → Type 0) where
           wrong = λ t e. refusals f.wrong;
         }
 
-    pub load-answer-holds : (p : Particulars) (key : List ℕ) → Q (Answer.Success 0x0140 Content.Plain) → Q (desk_after passwords (DeskCall.load p key) s).answer
+    pub load-answer-holds : (p : Particulars) (key : List ℕ) → Q (successful 0x0140 Content.Plain) → Q (desk_after passwords (DeskCall.load p key) s).answer
     load-answer-holds p key q =
         load-holds passwords s (λ x. Q x.answer) p key
         (record { bad = λ t. refusals _; taken = λ t other e. refusals _; full = λ t none e. refusals _; made = λ t none at e. q })

@@ -1,5 +1,5 @@
 -- Demand 1 by bytes (`Demand1Bytes`): every branch of a call leaves the changes listed for its code.
-use Rattle.std.specs.Prelude.{ℕ, ◌+◌, ◌≤◌, ◌≡◌, Bool, true, false, ◌||◌, cond, eqb, leb, length}
+use Rattle.std.specs.Prelude.{ℕ, ◌+◌, ◌≤◌, ◌≡◌, Bool, true, false, ◌||◌, cond, eqb, leb, length, Some, None}
 use Rattle.std.proofs.Math.Path.{refl, sym, ap}
 use Rattle.std.proofs.Common.{◌∙◌, arith}
 use mathlib.Core.List.{List, [], ◌∷◌, ◌++◌}
@@ -14,16 +14,14 @@ use Rattle.window.specs.declared.asked.Asked.{Asked}
 use Rattle.window.specs.PasswordAt.{PasswordRule}
 use Rattle.window.specs.Asked.{one_asked}
 use Rattle.row.specs.declared.Row.{Row}
-use Rattle.row.specs.declared.reading.Place.{Place}
 use Rattle.row.specs.Row.{row_bytes, last_state, row_at, well_formed}
-use Rattle.row.specs.Table.{find_row, find_empty, store_row, wipe_key}
+use Rattle.row.specs.Table.{Place, find_row, find_empty, store_row, wipe_key}
 use Rattle.row.specs.RangeLaws.{unlocked_elsewhere}
 use Rattle.row.specs.FoundLaws.{found_within, empty-within}
 use Rattle.row.specs.StoreLaws.{store_same}
-use Rattle.token.specs.declared.lines.Needs.TheVariants.{From}
 use Rattle.token.specs.declared.lines.Way.TheVariants.{Checks}
 use Rattle.token.specs.declared.lines.After.TheVariants.{Kept}
-use Rattle.token.specs.Lines.{ready, at_login, listed, allowed, state_refusal}
+use Rattle.token.specs.Lines.{ready, at_login, listed, allowed, state_refusal, from_to}
 use Rattle.token.specs.Codes.{number_of}
 use Rattle.token.specs.States.{changed, wait_over, waited, with_state, accepted, errors_after, failed}
 use Rattle.token.specs.Deciding.{refusing}
@@ -129,7 +127,7 @@ module _ (s : List ℕ) (at clock : ℕ) (press : Bool) where
     login-leaves : (passwords : PasswordRule) (asked : Asked) (success : ℕ) (challenge p : List ℕ) → password_ok p ≡ true → press ≡ last_has passwords (row_at s at).track (secret_at s at) clock challenge p
         → (o : Outcome) → o ≡ one_asked passwords (row_at s at).track clock (secret_at s at) Small challenge (as_password p)
         → leaving success ≡ leaving 0x0001
-        → Judged (listed (From ready ready) (Checks asked at_login) success Kept) row clock (λ d. Leaves (stored s at d)) asked at_login o
+        → Judged (listed (from_to ready ready) (Checks asked at_login) success Kept) row clock (λ d. Leaves (stored s at d)) asked at_login o
     login-leaves passwords asked success challenge p ok same o eo es =
         record {
           expired = λ t. refl;
@@ -174,7 +172,7 @@ module _ (passwords : PasswordRule) (s : List ℕ) (request : Request) (serial c
   abbrev Somewhere : Result → Type 0
   Somewhere x = x.table ≡ at_place s (find_row row_bytes s serial) (λ at. leaving s at clock (press at) (number_of x.answer) (step_in x.answer))
 
-  within : {at : ℕ} → find_row row_bytes s serial ≡ Place.At at → at + row_bytes ≤ length s
+  within : {at : ℕ} → find_row row_bytes s serial ≡ Some at → at + row_bytes ≤ length s
   within {at} e = found_within row_bytes s serial (omega arith) at e
 
   named-leaves : Somewhere (desk_after passwords (DeskCall.named request serial clock) s)
@@ -198,8 +196,8 @@ module _ (passwords : PasswordRule) (s : List ℕ) (request : Request) (serial c
 
   placed : AreBytes s → (place : Place) → find_row row_bytes s serial ≡ place → (code a : ℕ)
       → at_place s place (λ at. leaving s at clock (press at) code a) ≡ at_place s place (λ at. laid s at (left_by s at clock (press at) code a))
-  placed bytes (Place.At at) e code a = leaving-laid s at clock (press at) (within e) bytes code a
-  placed bytes Place.Nowhere e code a = refl
+  placed bytes (Some at) e code a = leaving-laid s at clock (press at) (within e) bytes code a
+  placed bytes None e code a = refl
 
 pub demand_1_bytes : Demand1Bytes
 demand_1_bytes passwords (DeskCall.load p key) s bytes =

@@ -1,14 +1,12 @@
 -- Demand 1 (`Demand1`): every branch of a call gives a listed code and leaves the bytes named for it.
-use Rattle.std.specs.Prelude.{ℕ, ◌≡◌, refl, Bool, true, false, ◌&&◌, ◌||◌}
+use Rattle.std.specs.Prelude.{ℕ, ◌≡◌, refl, Bool, true, false, ◌&&◌, ◌||◌, Some, None, Err}
 use mathlib.Core.List.{List, []}
 use Rattle.words.specs.Lists.{one_of}
 use Rattle.words.specs.BoolLaws.{and_left, and_right, clash}
 use Rattle.window.specs.PasswordAt.{PasswordRule}
-use Rattle.row.specs.declared.reading.Place.{Place}
 use Rattle.row.specs.Row.{row_bytes}
-use Rattle.row.specs.Table.{find_row, store_row}
+use Rattle.row.specs.Table.{Place, find_row, store_row}
 use Rattle.token.specs.declared.answers.Refusal.{Refusal}
-use Rattle.token.specs.declared.answers.Answer.{Answer}
 use Rattle.token.specs.Lines.{allowed, state_refusal}
 use Rattle.token.specs.Codes.{refusal_number, number_of}
 use Rattle.token.specs.States.{failed}
@@ -49,11 +47,11 @@ module _ (passwords : PasswordRule) (s : List ℕ) (at clock : ℕ) where
       (search (and_left), rw w)
 
   -- what 8004 leaves of a login: nothing but a wait run out at a double press, else an error more
-  again-left : (press : Bool) → press ≡ true → store_row s at (row_now s at clock) ≡ request_bytes clock s at press (Answer.Refused Refusal.UsedAtLogin)
+  again-left : (press : Bool) → press ≡ true → store_row s at (row_now s at clock) ≡ request_bytes clock s at press (Err Refusal.UsedAtLogin)
   again-left true e = refl
   again-left false e = clash e refl
 
-  used-left : (press : Bool) → press ≡ false → store_row s at (failed (row_now s at clock) clock true) ≡ request_bytes clock s at press (Answer.Refused Refusal.UsedAtLogin)
+  used-left : (press : Bool) → press ≡ false → store_row s at (failed (row_now s at clock) clock true) ≡ request_bytes clock s at press (Err Refusal.UsedAtLogin)
   used-left true e = clash refl e
   used-left false e = refl
 
@@ -90,8 +88,8 @@ module _ (passwords : PasswordRule) (s : List ℕ) (at clock : ℕ) where
 -- ---- the calls
 
 pub unchanged_anywhere : (s : List ℕ) (place : Place) → s ≡ at_place s place (λ at. s)
-unchanged_anywhere s (Place.At at) = refl
-unchanged_anywhere s Place.Nowhere = refl
+unchanged_anywhere s (Some at) = refl
+unchanged_anywhere s None = refl
 
 abbrev Meets : PasswordRule → DeskCall → List ℕ → Result → Type 0
 Meets passwords call s x = (one_of (number_of x.answer) (codes_of call) ≡ true) × (x.table ≡ bytes_for passwords call s x.answer)

@@ -1,5 +1,6 @@
 -- No call is answered 8106, and an accepted step of a time token lies at most 600 from T (`No8106`).
-use Rattle.std.specs.Prelude.{ℕ, ◌^◌, ◌≤◌, ◌≡◌, refl, false, List, eqb}
+use Rattle.token.specs.Answers.{Answer}
+use Rattle.std.specs.Prelude.{ℕ, ◌^◌, ◌≤◌, ◌≡◌, refl, false, List, eqb, Err}
 use Rattle.std.proofs.Common.{sym, ap, subst, ltb-true}
 use Rattle.std.proofs.Math.Option.{Option, some, get_or}
 use Rattle.words.specs.Lists.{one_of}
@@ -15,7 +16,6 @@ use Rattle.row.specs.declared.Row.{Row}
 use Rattle.row.specs.Row.{last_state, row_at}
 use Rattle.row.specs.RangeLaws.{row-sound}
 use Rattle.token.specs.declared.answers.Refusal.{Refusal}
-use Rattle.token.specs.declared.answers.Answer.{Answer}
 use Rattle.token.specs.declared.lines.Way.{Way}
 use Rattle.token.specs.Codes.{number_of}
 use Rattle.token.specs.StatesLaws.{waited-track}
@@ -32,8 +32,8 @@ use Rattle.desk.specs.No8106.{No8106, AcceptedNear}
 abbrev Other : Answer → Type 0
 Other answer = eqb (number_of answer) 0x8106 ≡ false
 
-refusal-other : (f : Refusal) → Other (Answer.Refused f)
-refusal-other = by-refusal (λ f. Other (Answer.Refused f)) refl refl refl refl refl refl refl refl refl refl refl refl refl refl refl refl refl refl refl refl refl
+refusal-other : (f : Refusal) → Other (Err f)
+refusal-other = by-refusal (λ f. Other (Err f)) refl refl refl refl refl refl refl refl refl refl refl refl refl refl refl refl refl refl refl refl refl
 
 success-other : (w : Row) (clock : ℕ) (check : Track → Asked → Outcome) (request : Request) → Succeeds Other (line_for request) w clock check (line_for request).way
 success-other w clock check (Request.login password) = λ a e. refl

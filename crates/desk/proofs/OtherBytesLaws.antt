@@ -1,5 +1,6 @@
 -- Besides the offsets listed for a code (`Demand1Bytes`), every byte of the table stays.
-use Rattle.std.specs.Prelude.{ℕ, ◌+◌, ◌≤◌, ◌<◌, ◌≡◌, Bool, true, false, ◌&&◌, ◌||◌, ◌⊎◌, eqb, leb, length, get_or}
+use Rattle.token.specs.Answers.{Answer}
+use Rattle.std.specs.Prelude.{ℕ, ◌+◌, ◌≤◌, ◌<◌, ◌≡◌, Bool, true, false, ◌&&◌, ◌||◌, ◌⊎◌, eqb, leb, length, get_or, Some, None}
 use Rattle.std.proofs.Math.Path.{refl}
 use Rattle.std.proofs.Common.{◌∙◌, inl, inr, arith, leb-true, leb-false}
 use mathlib.Core.List.{List, [], ◌∷◌, ◌++◌}
@@ -11,12 +12,11 @@ use Rattle.window.specs.declared.Outcome.{Outcome}
 use Rattle.window.specs.declared.asked.Asked.{Asked}
 use Rattle.window.specs.PasswordAt.{PasswordRule}
 use Rattle.row.specs.declared.Row.{Row}
-use Rattle.row.specs.declared.reading.Place.{Place}
+use Rattle.row.specs.Table.{Place}
 use Rattle.row.specs.Row.{row_bytes}
 use Rattle.row.specs.FoundLaws.{found_within, empty-within}
 use Rattle.row.specs.WriteLaws.{length-zero_filled}
 use Rattle.token.specs.declared.answers.Refusal.{Refusal}
-use Rattle.token.specs.declared.answers.Answer.{Answer}
 use Rattle.token.specs.Codes.{refusal_number, number_of}
 use Rattle.desk.specs.declared.Particulars.{Particulars}
 use Rattle.desk.specs.Requests.{Request, DeskCall}
@@ -45,7 +45,7 @@ abbrev Stays : Place → List Part → List ℕ → List ℕ → Type 0
 Stays place parts s t = (length t ≡ length s) × ((i : ℕ) → in_parts place parts i ≡ false → get_or t i 0 ≡ get_or s i 0)
 
 -- what lies outside the parts lies outside a change within them
-outside : (at i : ℕ) (parts : List Part) (c : Change) → within parts c ≡ true → in_parts (Place.At at) parts i ≡ false
+outside : (at i : ℕ) (parts : List Part) (c : Change) → within parts c ≡ true → in_parts (Some at) parts i ≡ false
     → (i < at + c.offset) ⊎ (at + c.offset + length c.bytes ≤ i)
 outside at i [] c t f = clash t refl
 outside at i (p ∷ parts) c t f =
@@ -53,7 +53,7 @@ outside at i (p ∷ parts) c t f =
     let high = leb (end c) (p.last + 1) in
     let after = leb (at + p.first) i in
     let before = leb i (at + p.last) in
-    let rest = in_parts (Place.At at) parts i in
+    let rest = in_parts (Some at) parts i in
     by-test (low && high)
     (λ b.
     let l = leb-true p.first c.offset (and_left _ _ b) in
@@ -64,7 +64,7 @@ outside at i (p ∷ parts) c t f =
     (λ b. outside at i parts c (rw b at t) (or_right (after && before) rest f))
 
 module _ (at : ℕ) (parts : List Part) where
-  laid-stays : (s : List ℕ) (cs : List Change) → at + row_bytes ≤ length s → all_fitting parts cs ≡ true → Stays (Place.At at) parts s (laid s at cs)
+  laid-stays : (s : List ℕ) (cs : List Change) → at + row_bytes ≤ length s → all_fitting parts cs ≡ true → Stays (Some at) parts s (laid s at cs)
   laid-stays s [] room t = (refl, λ i f. refl)
   laid-stays s (c ∷ cs) room t =
       let place = at + c.offset in
@@ -72,7 +72,7 @@ module _ (at : ℕ) (parts : List Part) where
       let fits = leb-true (end c) row_bytes (and_left _ _ first) in
       let kept : length (put s place c.bytes) ≡ length s = put-length s place c.bytes (omega arith) in
       let later = laid-stays (put s place c.bytes) cs (rw kept room) (and_right (fitting parts c) _ t) in
-      let stays : (i : ℕ) → in_parts (Place.At at) parts i ≡ false → get_or (put s place c.bytes) i 0 ≡ get_or s i 0 =
+      let stays : (i : ℕ) → in_parts (Some at) parts i ≡ false → get_or (put s place c.bytes) i 0 ≡ get_or s i 0 =
       λ i f. get_or-put s place c.bytes i (omega arith) (outside at i parts c (and_right (leb (end c) row_bytes) _ first) f) in
       (later.0 ∙ kept, λ i f. later.1 i f ∙ stays i f)
 
@@ -152,15 +152,15 @@ module _ (passwords : PasswordRule) (s : List ℕ) where
       let press = press_in passwords request s at clock in
       named-answer-holds (AnswerCovered s at clock press) (refusal_covered s at clock press) passwords s request serial clock (λ by r. success_covered s at clock press (row_now s by clock) (check_at passwords request s by clock) request)
 
-  row_within : (call : DeskCall) (at : ℕ) → row_of call s ≡ Place.At at → at + row_bytes ≤ length s
+  row_within : (call : DeskCall) (at : ℕ) → row_of call s ≡ Some at → at + row_bytes ≤ length s
   row_within (DeskCall.load p key) at e = empty-within row_bytes s (omega arith) at e
   row_within (DeskCall.named request serial clock) at e = found_within row_bytes s serial (omega arith) at e
 
   stays_in : (call : DeskCall) (place : Place) → row_of call s ≡ place → Stays place (parts_of (number_of (desk_after passwords call s).answer)) s (left_in passwords call s (desk_after passwords call s).answer)
-  stays_in call (Place.At at) e =
+  stays_in call (Some at) e =
       let answer = (desk_after passwords call s).answer in
       rw e (laid-stays at (parts_of (number_of answer)) s (changes_for passwords call s at answer) (row_within call at e) (changes_covered call at))
-  stays_in call Place.Nowhere e = rw e (refl, λ i f. refl)
+  stays_in call None e = rw e (refl, λ i f. refl)
 
 pub other-bytes_stay : OtherBytesStay
 other-bytes_stay passwords call s bytes = rw (demand_1_bytes passwords call s bytes) (stays_in passwords s call (row_of call s) refl)

@@ -10,7 +10,6 @@ use Rattle.row.specs.StoreLaws.{length_store}
 use Rattle.row.specs.OutsideLaws.{Outside, outside_itself, outside-next, store_outside, wipe_outside}
 use Rattle.row.specs.LocalLaws.{row_at_local, secret_local, store_local, wipe_local}
 use Rattle.token.specs.declared.lines.Request.{Request as Valued}
-use Rattle.token.specs.declared.deciding.Key.{Key}
 use Rattle.token.specs.declared.deciding.Left.{Left}
 use Rattle.token.specs.Deciding.{decided}
 use Rattle.desk.specs.Desk.{Result, secret_at, left_at, served_at}
@@ -23,8 +22,8 @@ pub record Alike (at by : ℕ) (x y : Result) : Type 0 where
 
 left-outside : (s : List ℕ) (at : ℕ) → at + row_bytes ≤ length s → (left : Left) → Outside s (left_at s at left) at
 left-outside s at room Left.Same = outside_itself s at
-left-outside s at room (Left.Stored r Key.Kept) = store_outside s at room r
-left-outside s at room (Left.Stored r Key.Zeroed) = outside-next (store_outside s at room r) (wipe_outside (store_row s at r) at (rw (length_store s at r) room))
+left-outside s at room (Left.Stored r) = store_outside s at room r
+left-outside s at room (Left.Voided r) = outside-next (store_outside s at room r) (wipe_outside (store_row s at r) at (rw (length_store s at r) room))
 
 pub served-outside : (passwords : PasswordRule) (request : Valued) (challenge : List ℕ) (clock : ℕ) (s : List ℕ) (at : ℕ) → at + row_bytes ≤ length s
     → Outside s (served_at passwords request challenge clock s at (row_at s at)).table at
@@ -35,8 +34,8 @@ served-outside passwords request challenge clock s at room =
 module _ (s t : List ℕ) (at by : ℕ) (same : bytes_at s at ≡ bytes_at t by) (room : at + row_bytes ≤ length s) (space : by + row_bytes ≤ length t) where
   left_local : (left : Left) → bytes_at (left_at s at left) at ≡ bytes_at (left_at t by left) by
   left_local Left.Same = same
-  left_local (Left.Stored r Key.Kept) = store_local s t at by same room space r
-  left_local (Left.Stored r Key.Zeroed) =
+  left_local (Left.Stored r) = store_local s t at by same room space r
+  left_local (Left.Voided r) =
       wipe_local (store_row s at r) (store_row t by r) at by (store_local s t at by same room space r) (rw (length_store s at r) room) (rw (length_store t by r) space)
 
   pub served_local : (highest : ℕ) → well_formed highest s at ≡ true → (passwords : PasswordRule) (request : Valued) (challenge : List ℕ) (clock : ℕ)

@@ -1,5 +1,6 @@
 -- What each branch of a request to the token of a serial returns.
-use Rattle.std.specs.Prelude.{ℕ, ◌+◌, ◌-◌, ◌^◌, ◌≤◌, ◌<◌, ◌≡◌, refl, Bool, not, ◌&&◌, ◌||◌, eqb, ltb, length, take, drop}
+use Rattle.token.specs.Answers.{Answer, missing}
+use Rattle.std.specs.Prelude.{ℕ, ◌+◌, ◌-◌, ◌^◌, ◌≤◌, ◌<◌, ◌≡◌, refl, Ok, Err, Bool, not, ◌&&◌, ◌||◌, eqb, ltb, length, take, drop}
 use Rattle.std.proofs.Common.{sym, ap, ◌∙◌, ⊎_elim, arith, eq-eqb, le-leb, ltb-true, length-drop, length-take-le}
 use Rattle.std.proofs.Math.Bool.{true, false}
 use mathlib.Core.List.{List, []}
@@ -15,16 +16,16 @@ use Rattle.row.specs.Row.{row_bytes, last_state, row_at, numbers_ok, well_formed
 use Rattle.row.specs.RangeLaws.{known_algorithm, digits_in_range, length_in_range, row-sound}
 use Rattle.row.specs.FoundLaws.{found_within}
 use Rattle.row.specs.LocateLaws.{located-at}
-use Rattle.row.specs.Table.{located}
+use Rattle.row.specs.declared.reading.Unserved.{Unserved}
+use Rattle.row.specs.Table.{Sought, located}
 use Rattle.token.specs.declared.answers.Refusal.{Refusal}
-use Rattle.token.specs.declared.answers.Answer.{Answer}
 use Rattle.token.specs.declared.lines.Request.{Request as Valued}
 use Rattle.token.specs.declared.deciding.Decision.{Decision}
 use Rattle.token.specs.Lines.{line_of}
 use Rattle.token.specs.States.{waited}
 use Rattle.token.specs.Deciding.{telling, deciding, decided}
 use Rattle.desk.specs.Requests.{query_call, table_ok, clock_ok, challenge_given, request_ok, challenge_fits}
-use Rattle.desk.specs.Desk.{result_of, refused, secret_at, left_at, missing, served_at, served_from, served, desk_after}
+use Rattle.desk.specs.Desk.{result_of, refused, secret_at, left_at, served_at, served_from, served, desk_after}
 
 pub numbers_of : (highest : ℕ) (s : List ℕ) (at : ℕ) → well_formed highest s at ≡ true → numbers_ok highest (row_at s at) ≡ true
 unfolding well_formed
@@ -44,36 +45,36 @@ row_in_range highest r key challenge ok l c =
 
 -- ---- a row that was located, and its key as it is lent
 
-module _ (s : List ℕ) (serial : ℕ) {x : Located} {at : ℕ} {r : Row} (found : x ≡ located row_bytes last_state s serial) (here : x ≡ Located.At at r) where
-  good : (well_formed last_state s at ≡ true) × (r ≡ row_at s at)
-  good = (located-at row_bytes last_state s serial at r (sym found ∙ here)).1
+module _ (s : List ℕ) (serial : ℕ) {x : Sought} {y : Located} (found : x ≡ located row_bytes last_state s serial) (here : x ≡ Ok y) where
+  good : (well_formed last_state s y.at ≡ true) × (y.row ≡ row_at s y.at)
+  good = (located-at row_bytes last_state s serial y (sym found ∙ here)).1
 
-  pub row_within : at + row_bytes ≤ length s
-  row_within = found_within row_bytes s serial (omega arith) at (located-at row_bytes last_state s serial at r (sym found ∙ here)).0
+  pub row_within : y.at + row_bytes ≤ length s
+  row_within = found_within row_bytes s serial (omega arith) y.at (located-at row_bytes last_state s serial y (sym found ∙ here)).0
 
-  numbers : numbers_ok last_state r ≡ true
-  numbers = rw good.1 (numbers_of last_state s at good.0)
+  numbers : numbers_ok last_state y.row ≡ true
+  numbers = rw good.1 (numbers_of last_state s y.at good.0)
 
-  pub key-within : at + 16 + r.key_length ≤ length s
-  key-within = let n = length_in_range last_state r numbers in omega (arith, row_within)
+  pub key-within : y.at + 16 + y.row.key_length ≤ length s
+  key-within = let n = length_in_range last_state y.row numbers in omega (arith, row_within)
 
-  key-lent : take (at + 16 + r.key_length - (at + 16)) (drop (at + 16) s) ≡ secret_at s at
-  key-lent = let z : at + 16 + r.key_length - (at + 16) ≡ r.key_length = omega arith in rw (z, good.1)
+  key-lent : take (y.at + 16 + y.row.key_length - (y.at + 16)) (drop (y.at + 16) s) ≡ secret_at s y.at
+  key-lent = let z : y.at + 16 + y.row.key_length - (y.at + 16) ≡ y.row.key_length = omega arith in rw (z, good.1)
 
-  length-secret : length (secret_at s at) ≡ r.key_length
-  length-secret = let d = length-drop (at + 16) s in rw (← good.1) (length-take-le r.key_length (drop (at + 16) s) (omega (arith, key-within, d)))
+  length-secret : length (secret_at s y.at) ≡ y.row.key_length
+  length-secret = let d = length-drop (y.at + 16) s in rw (← good.1) (length-take-le y.row.key_length (drop (y.at + 16) s) (omega (arith, key-within, d)))
 
   pub lent_in_range : (challenge : List ℕ) {clock : ℕ} → clock < 2 ^ 40 → challenge_ok challenge ≡ true
-      → Sound r.track clock × (in_range r.track.scheme (take (at + 16 + r.key_length - (at + 16)) (drop (at + 16) s)) challenge ≡ true)
+      → Sound y.row.track clock × (in_range y.row.track.scheme (take (y.at + 16 + y.row.key_length - (y.at + 16)) (drop (y.at + 16) s)) challenge ≡ true)
   lent_in_range challenge {clock} h c =
-      (row-sound last_state r numbers clock h, rw key-lent (row_in_range last_state r (secret_at s at) challenge numbers length-secret c))
+      (row-sound last_state y.row numbers clock h, rw key-lent (row_in_range last_state y.row (secret_at s y.at) challenge numbers length-secret c))
 
   -- the decision on the row with its key as lent is that on the key as defined
   pub served-lent : (passwords : PasswordRule) (request : Valued) (challenge : List ℕ) (clock : ℕ) {d : Decision} {after : List ℕ}
-      → d ≡ decided passwords request r (take (at + 16 + r.key_length - (at + 16)) (drop (at + 16) s)) clock challenge
-      → after ≡ left_at s at d.left → result_of d.answer after ≡ served_at passwords request challenge clock s at r
+      → d ≡ decided passwords request y.row (take (y.at + 16 + y.row.key_length - (y.at + 16)) (drop (y.at + 16) s)) clock challenge
+      → after ≡ left_at s y.at d.left → result_of d.answer after ≡ served_at passwords request challenge clock s y.at y.row
   unfolding served_at
-  served-lent passwords request challenge clock {d} e p = let f : d ≡ decided passwords request r (secret_at s at) clock challenge = rw key-lent at e in rw (p, f)
+  served-lent passwords request challenge clock {d} e p = let f : d ≡ decided passwords request y.row (secret_at s y.at) clock challenge = rw key-lent at e in rw (p, f)
 
 -- ---- the lent challenge
 
@@ -112,12 +113,6 @@ module _ (b c : Bool) (t : not (b && c) ≡ false) where
   pub challenge-lent : (request : Valued) (challenge : List ℕ) → c ≡ challenge_fits request challenge → challenge_ok challenge ≡ true
   challenge-lent request challenge asked = fit_in_range request challenge (rw (← asked) (and_right b _ (not-false (b && c) t)))
 
-missing-row : (passwords : PasswordRule) (request : Valued) (challenge : List ℕ) (clock : ℕ) (s : List ℕ) (x : Located) → ((at : ℕ) (r : Row) → x ≡ Located.At at r → ⊥)
-    → refused (missing x) s ≡ served_from passwords request challenge clock s x
-missing-row passwords request challenge clock s (Located.At at r) n = absurd (n at r refl)
-missing-row passwords request challenge clock s Located.Unknown n = refl
-missing-row passwords request challenge clock s Located.Damaged n = refl
-
 module _ (passwords : PasswordRule) (request : Valued) (challenge : List ℕ) (serial clock : ℕ) (s : List ℕ) {b c : Bool}
     (lent : b ≡ table_ok row_bytes s && clock_ok clock) (asked : c ≡ challenge_fits request challenge) where
   pub serve_unfit : not (b && c) ≡ true → refused Refusal.BadArgument s ≡ served passwords request challenge serial clock s
@@ -125,17 +120,17 @@ module _ (passwords : PasswordRule) (request : Valued) (challenge : List ℕ) (s
   serve_unfit t = let e : (table_ok row_bytes s && clock_ok clock) && challenge_fits request challenge ≡ false = rw (← lent, ← asked) (not-true (b && c) t) in rw e
 
   module _ (t : not (b && c) ≡ false) where
-    module _ {x : Located} (found : x ≡ located row_bytes last_state s serial) where
+    module _ {x : Sought} (found : x ≡ located row_bytes last_state s serial) where
       pub serve_from : served_from passwords request challenge clock s x ≡ served passwords request challenge serial clock s
       unfolding served
       serve_from = let e : (table_ok row_bytes s && clock_ok clock) && challenge_fits request challenge ≡ true = rw (← lent, ← asked) (not-false (b && c) t) in rw (e, ← found)
 
-      pub serve_missing : {f : Refusal} → ((at : ℕ) (r : Row) → x ≡ Located.At at r → ⊥) → f ≡ missing x → refused f s ≡ served passwords request challenge serial clock s
-      serve_missing n e = rw e (missing-row passwords request challenge clock s x n ∙ serve_from)
+      pub serve_missing : {e : Unserved} {f : Refusal} → x ≡ Err e → f ≡ missing e → refused f s ≡ served passwords request challenge serial clock s
+      serve_missing h e = rw (e, ← serve_from, h)
 
-      pub serve_made : {at : ℕ} {r : Row} → x ≡ Located.At at r → {d : Decision} {after : List ℕ}
-          → d ≡ decided passwords request r (take (at + 16 + r.key_length - (at + 16)) (drop (at + 16) s)) clock challenge
-          → after ≡ left_at s at d.left → result_of d.answer after ≡ served passwords request challenge serial clock s
+      pub serve_made : {y : Located} → x ≡ Ok y → {d : Decision} {after : List ℕ}
+          → d ≡ decided passwords request y.row (take (y.at + 16 + y.row.key_length - (y.at + 16)) (drop (y.at + 16) s)) clock challenge
+          → after ≡ left_at s y.at d.left → result_of d.answer after ≡ served passwords request challenge serial clock s
       serve_made h e p = served-lent s serial found h passwords request challenge clock e p ∙ ap (served_from passwords request challenge clock s) (sym h) ∙ serve_from
 
 -- ---- a query
@@ -145,15 +140,15 @@ module _ (passwords : PasswordRule) (serial clock : ℕ) (s : List ℕ) {b : Boo
   unfolding desk_after request_ok
   query-unfit t = let e : table_ok row_bytes s && clock_ok clock ≡ false = rw (← lent) (not-true b t) in rw (and_true (clock_ok clock), e)
 
-  module _ (t : not b ≡ false) {x : Located} (found : x ≡ located row_bytes last_state s serial) where
+  module _ (t : not b ≡ false) {x : Sought} (found : x ≡ located row_bytes last_state s serial) where
     query-from : served_from passwords Valued.Query [] clock s x ≡ desk_after passwords (query_call serial clock) s
     unfolding desk_after request_ok
     query-from = let e : table_ok row_bytes s && clock_ok clock ≡ true = rw (← lent) (not-false b t) in rw (and_true (clock_ok clock), e, ← found)
 
-    pub query-missing : {f : Refusal} → ((at : ℕ) (r : Row) → x ≡ Located.At at r → ⊥) → f ≡ missing x → refused f s ≡ desk_after passwords (query_call serial clock) s
-    query-missing n e = rw e (missing-row passwords Valued.Query [] clock s x n ∙ query-from)
+    pub query-missing : {e : Unserved} {f : Refusal} → x ≡ Err e → f ≡ missing e → refused f s ≡ desk_after passwords (query_call serial clock) s
+    query-missing h e = rw (e, ← query-from, h)
 
-    pub query-told : {at : ℕ} {r : Row} {a : Answer} → x ≡ Located.At at r → a ≡ (telling (line_of Valued.Query) (waited r clock)).answer
+    pub query-told : {y : Located} {a : Answer} → x ≡ Ok y → a ≡ (telling (line_of Valued.Query) (waited y.row clock)).answer
         → result_of a s ≡ desk_after passwords (query_call serial clock) s
     unfolding served_at decided deciding
     query-told h e = rw e (ap (served_from passwords Valued.Query [] clock s) (sym h) ∙ query-from)

@@ -1,11 +1,11 @@
 -- Lines of data that restate what the desk does with a row (document 01, Part 5), and the test that holds them to it: a call, the number that is answered,
 -- what the answer carries, and every byte of the row after it.
-use Rattle.std.specs.Prelude.{ℕ, ◌+◌, ◌*◌, Bool, true, false, ◌&&◌, List, [], ◌∷◌, ◌++◌, eqb, length, replicate}
+use Rattle.token.specs.Answers.{Answer}
+use Rattle.std.specs.Prelude.{ℕ, ◌+◌, ◌*◌, Bool, true, false, ◌&&◌, List, [], ◌∷◌, ◌++◌, eqb, length, replicate, Err, Ok}
 use Rattle.words.specs.Bytes.{be_bytes}
 use Rattle.words.specs.Lists.{same_bytes}
 use Rattle.otp.specs.Password.{decimals}
 use Rattle.window.specs.PasswordAt.{PasswordRule}
-use Rattle.token.specs.declared.answers.Answer.{Answer}
 use Rattle.token.specs.Codes.{number_of, Signed, values_of}
 use Rattle.token.specs.Codes.Signed.{plus, minus}
 use Rattle.desk.specs.Requests.{Request, DeskCall}
@@ -56,8 +56,8 @@ abbrev pub by_steps : PasswordRule
 by_steps scheme key challenge s = decimals scheme.digits (s + 1000 * length challenge)
 
 abbrev pub carried : Answer → List Signed
-carried (Answer.Success number content) = values_of content
-carried (Answer.Refused refusal) = []
+carried (Ok success) = values_of success.content
+carried (Err refusal) = []
 
 abbrev pub same_signed : Signed → Signed → Bool
 same_signed (plus a) (plus b) = eqb a b

@@ -1,14 +1,13 @@
 -- The buyer's first demand (docs/OFFER.md): one of the codes listed for the call, and the bytes named for that code. It holds for every
 -- password rule; `Demand1Laws` has the proof.
-use Rattle.std.specs.Prelude.{ℕ, ◌≡◌, Bool, true, ◌&&◌, ◌||◌, cond, List, [], ◌∷◌, eqb}
+use Rattle.token.specs.Answers.{Answer}
+use Rattle.std.specs.Prelude.{ℕ, ◌≡◌, Bool, true, ◌&&◌, ◌||◌, cond, List, [], ◌∷◌, eqb, Some, None, Err, Ok}
 use Rattle.words.specs.Lists.{one_of}
 use Rattle.window.specs.PasswordAt.{PasswordRule}
 use Rattle.row.specs.declared.Row.{Row}
-use Rattle.row.specs.declared.reading.Place.{Place}
 use Rattle.row.specs.Row.{row_bytes, row_at}
-use Rattle.row.specs.Table.{find_row, find_empty, store_row, wipe_key, write_row}
+use Rattle.row.specs.Table.{Place, find_row, find_empty, store_row, wipe_key, write_row}
 use Rattle.token.specs.declared.answers.Content.{Content}
-use Rattle.token.specs.declared.answers.Answer.{Answer}
 use Rattle.token.specs.Codes.{number_of}
 use Rattle.token.specs.States.{waited, with_state, accepted, failed}
 use Rattle.desk.specs.Requests.{Request, DeskCall, loaded_row}
@@ -33,8 +32,8 @@ codes_of (DeskCall.load p key) = 0x0140 ∷ 0x9005 ∷ 0x8411 ∷ 0x8410 ∷ []
 codes_of (DeskCall.named request serial clock) = 0x9005 ∷ 0x8402 ∷ 0x8403 ∷ request_codes request
 
 abbrev pub at_place : List ℕ → Place → (ℕ → List ℕ) → List ℕ
-at_place s (Place.At at) written = written at
-at_place s Place.Nowhere written = s
+at_place s (Some at) written = written at
+at_place s None written = s
 
 -- the column "Left in the table": the codes that leave only a wait run out, and those that add an error
 abbrev pub wait_codes : List ℕ
@@ -63,8 +62,8 @@ success_bytes clock s at code Content.Plain =
 success_bytes clock s at code (Content.Queried status) = s
 
 abbrev pub request_bytes : ℕ → List ℕ → ℕ → Bool → Answer → List ℕ
-request_bytes clock s at press (Answer.Success code content) = success_bytes clock s at code content
-request_bytes clock s at press (Answer.Refused refusal) = refused_bytes clock s at press (number_of (Answer.Refused refusal))
+request_bytes clock s at press (Ok success) = success_bytes clock s at success.number success.content
+request_bytes clock s at press (Err refusal) = refused_bytes clock s at press (number_of (Err refusal))
 
 -- the row at a place finds a double press in the request
 abbrev pub press_at : PasswordRule → Request → ℕ → List ℕ → ℕ → Bool
@@ -72,8 +71,8 @@ press_at passwords request clock s at = pressed passwords (row_at s at).track (s
 
 -- the bytes that the documents name for an answer to a call
 abbrev pub bytes_for : PasswordRule → DeskCall → List ℕ → Answer → List ℕ
-bytes_for passwords (DeskCall.load p key) s (Answer.Success code content) = at_place s (find_empty row_bytes s) (λ at. write_row s at (loaded_row p key) key)
-bytes_for passwords (DeskCall.load p key) s (Answer.Refused refusal) = s
+bytes_for passwords (DeskCall.load p key) s (Ok success) = at_place s (find_empty row_bytes s) (λ at. write_row s at (loaded_row p key) key)
+bytes_for passwords (DeskCall.load p key) s (Err refusal) = s
 bytes_for passwords (DeskCall.named request serial clock) s answer =
     at_place s (find_row row_bytes s serial) (λ at. request_bytes clock s at (press_at passwords request clock s at) answer)
 

@@ -1,16 +1,15 @@
 -- The first demand by bytes (docs/OFFER.md): for each code, which offsets of which row may differ from before, what each then holds, and that every other
 -- byte of the table is the same. Offsets and numbers are document 01's: "Accepted step" of Part 3, the row of Part 4, "Success, and what follows" and the
 -- wait of Part 5, and "Left in the table"; the double press is document 02's. `Demand1BytesLaws` and `OtherBytesLaws` have the proofs.
-use Rattle.std.specs.Prelude.{ℕ, ◌+◌, ◌-◌, ◌/◌, min, ◌≡◌, Bool, false, ◌&&◌, ◌||◌, cond, List, [], ◌∷◌, ◌++◌, eqb, leb, length, get_or, replicate, take, drop}
+use Rattle.token.specs.Answers.{Answer}
+use Rattle.std.specs.Prelude.{ℕ, ◌+◌, ◌-◌, ◌/◌, min, ◌≡◌, Bool, false, ◌&&◌, ◌||◌, cond, List, [], ◌∷◌, ◌++◌, eqb, leb, length, get_or, replicate, take, drop, Some, None}
 use Rattle.std.proofs.Math.Option
 use Rattle.words.specs.Bytes.{AreBytes, be_at, be_bytes, put}
 use Rattle.words.specs.Lists.{one_of}
 use Rattle.window.specs.declared.Track.{Track}
 use Rattle.window.specs.PasswordAt.{PasswordRule}
-use Rattle.row.specs.declared.reading.Place.{Place}
 use Rattle.row.specs.Row.{row_bytes}
-use Rattle.row.specs.Table.{find_row, find_empty}
-use Rattle.token.specs.declared.answers.Answer.{Answer}
+use Rattle.row.specs.Table.{Place, find_row, find_empty}
 use Rattle.token.specs.Codes.{number_of}
 use Rattle.desk.specs.declared.Particulars.{Particulars}
 use Rattle.desk.specs.Requests.{Request, DeskCall}
@@ -185,9 +184,9 @@ parts_of code =
 
 -- the byte i of the table lies in one of these parts of the row
 abbrev pub in_parts : Place → List Part → ℕ → Bool
-in_parts Place.Nowhere parts i = false
-in_parts (Place.At at) [] i = false
-in_parts (Place.At at) (p ∷ parts) i = (leb (at + p.first) i && leb i (at + p.last)) || in_parts (Place.At at) parts i
+in_parts None parts i = false
+in_parts (Some at) [] i = false
+in_parts (Some at) (p ∷ parts) i = (leb (at + p.first) i && leb i (at + p.last)) || in_parts (Some at) parts i
 
 abbrev pub OtherBytesStay : Type 0
 OtherBytesStay =

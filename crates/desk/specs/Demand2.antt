@@ -1,6 +1,7 @@
 -- The buyer's second demand (docs/OFFER.md): accepted exactly when a candidate at or after the first unused step has the presented password, which for one
 -- password means exactly one such candidate (document 02, Ask 5); else several, used or wrong exactly as the documents say. It holds for every password rule, both kinds and both ciphers at once; `Demand2Laws` has the proof.
-use Rattle.std.specs.Prelude.{ℕ, ◌+◌, ◌≤◌, ◌<◌, ◌≡◌, Bool, true, false, ◌&&◌, List, [], ◌∷◌}
+use Rattle.token.specs.Answers.{Answer}
+use Rattle.std.specs.Prelude.{ℕ, ◌+◌, ◌≤◌, ◌<◌, ◌≡◌, Bool, true, false, ◌&&◌, List, [], ◌∷◌, Some}
 use Rattle.std.proofs.Math.Option.{Option, none, some}
 use Rattle.words.specs.Lists.{one_of}
 use Rattle.words.specs.Exactly.{Exactly}
@@ -9,10 +10,8 @@ use Rattle.window.specs.declared.Size.TheVariants.{Small, Medium, Large}
 use Rattle.window.specs.declared.Offset.{Offset}
 use Rattle.window.specs.Window.{candidate}
 use Rattle.window.specs.PasswordAt.{PasswordRule, has_by}
-use Rattle.row.specs.declared.reading.Place.{Place}
 use Rattle.row.specs.Row.{row_bytes, last_state, row_at, well_formed}
 use Rattle.row.specs.Table.{find_row}
-use Rattle.token.specs.declared.answers.Answer.{Answer}
 use Rattle.token.specs.Codes.{number_of}
 use Rattle.token.specs.States.{waited}
 use Rattle.desk.specs.Requests.{Request, DeskCall, table_ok, clock_ok, request_ok}
@@ -61,7 +60,7 @@ pub record Ready (request : Request) (c : Checking) (serial clock : ℕ) (s : Li
   pub table : table_ok row_bytes s ≡ true
   pub timely : clock_ok clock ≡ true
   pub arguments : request_ok request ≡ true
-  pub found : find_row row_bytes s serial ≡ Place.At at
+  pub found : find_row row_bytes s serial ≡ Some at
   pub formed : well_formed last_state s at ≡ true
   pub state : one_of (waited (row_at s at) clock).state c.states ≡ true
   pub unexpired : clock < (row_at s at).expiry.0

@@ -1,7 +1,7 @@
 -- The order of the refusals (document 01, "What a turned-down call says"): the lines of the table in its order, each a condition with a name and the
 -- code that it returns. For every call, table and clock the answer has the code of the first line that holds, else that of the success (Part 5).
 -- `FirstLineLaws` has the proof.
-use Rattle.std.specs.Prelude.{ℕ, ◌≡◌, Bool, true, false, ◌&&◌, not, cond, List, [], ◌∷◌, eqb, leb}
+use Rattle.std.specs.Prelude.{ℕ, ◌≡◌, Bool, true, false, ◌&&◌, not, cond, List, [], ◌∷◌, eqb, leb, Some, None}
 use Rattle.words.specs.Lists.{one_of}
 use Rattle.window.specs.declared.Size.{Size}
 use Rattle.window.specs.declared.Size.TheVariants.{Small, Medium, Large}
@@ -9,9 +9,8 @@ use Rattle.window.specs.declared.Outcome.{Outcome}
 use Rattle.window.specs.PasswordAt.{PasswordRule, has_by}
 use Rattle.window.specs.TokenCheck.{single_check, pair_check}
 use Rattle.row.specs.declared.Row.{Row}
-use Rattle.row.specs.declared.reading.Place.{Place}
 use Rattle.row.specs.Row.{row_bytes, last_state, row_at, well_formed}
-use Rattle.row.specs.Table.{find_row, find_empty}
+use Rattle.row.specs.Table.{Place, find_row, find_empty}
 use Rattle.token.specs.Codes.{number_of}
 use Rattle.token.specs.States.{waited}
 use Rattle.desk.specs.declared.Particulars.{Particulars}
@@ -47,8 +46,8 @@ abbrev pub load_value_bad : Particulars → List ℕ → Bool
 load_value_bad p key = not (load_ok p key)
 
 abbrev pub nowhere : Place → Bool
-nowhere (Place.At at) = false
-nowhere Place.Nowhere = true
+nowhere (Some at) = false
+nowhere None = true
 
 -- load: the serial is in a row not empty
 abbrev pub serial_taken : List ℕ → ℕ → Bool
@@ -171,10 +170,10 @@ state_lines needed state further =
 
 -- the lines of the row that has the serial, once a wait has run out
 abbrev pub row_lines : PasswordRule → Request → ℕ → List ℕ → Place → List Line
-row_lines passwords request clock s (Place.At at) =
+row_lines passwords request clock s (Some at) =
     returns 0x8403 (row_damaged s at)
     ∷ state_lines (needed request) (waited (row_at s at) clock).state (request_lines passwords (waited (row_at s at) clock) (secret_at s at) clock request)
-row_lines passwords request clock s Place.Nowhere = []
+row_lines passwords request clock s None = []
 
 abbrev pub lines_for : PasswordRule → DeskCall → List ℕ → List Line
 lines_for passwords (DeskCall.load p key) s =

@@ -5,7 +5,7 @@ ghost use Rattle.desk.specs.Requests.{login_call, challenge_call, activate_call,
 ghost use Rattle.desk.specs.Desk.{result_of, desk_after};
 
 use crate::serving::serve;
-use otp::typed::{Typed, password_of};
+use otp::typed::password_of;
 use token::{Answer, Refusal, Request};
 use window::{Seconds, Size};
 
@@ -13,9 +13,7 @@ use window::{Seconds, Size};
 pub fn login(table: &mut [u8], serial: u64, clock: Seconds, password: &[u8]) -> Answer
     ensures { result_of result table.new ≡ desk_after password_at (login_call password.now serial clock.0) table.old }
 {
-    let Typed::Is(p) = password_of(password) else {
-        return Answer::Refused(Refusal::BadArgument);
-    };
+    let p = password_of(password).ok_or(Refusal::BadArgument)?;
     serve(table, serial, clock, Request::Login(p), b"")
 }
 
@@ -29,9 +27,7 @@ pub fn challenge_login(
 ) -> Answer
     ensures { result_of result table.new ≡ desk_after password_at (challenge_call challenge.now password.now serial clock.0) table.old }
 {
-    let Typed::Is(p) = password_of(password) else {
-        return Answer::Refused(Refusal::BadArgument);
-    };
+    let p = password_of(password).ok_or(Refusal::BadArgument)?;
     serve(table, serial, clock, Request::ChallengeLogin(p), challenge)
 }
 
@@ -45,12 +41,8 @@ pub fn activate(
 ) -> Answer
     ensures { result_of result table.new ≡ desk_after password_at (activate_call password.now following.now serial clock.0) table.old }
 {
-    let Typed::Is(p) = password_of(password) else {
-        return Answer::Refused(Refusal::BadArgument);
-    };
-    let Typed::Is(q) = password_of(following) else {
-        return Answer::Refused(Refusal::BadArgument);
-    };
+    let p = password_of(password).ok_or(Refusal::BadArgument)?;
+    let q = password_of(following).ok_or(Refusal::BadArgument)?;
     serve(table, serial, clock, Request::Activate(p, q), b"")
 }
 
@@ -65,9 +57,7 @@ pub fn lock(table: &mut [u8], serial: u64, clock: Seconds) -> Answer
 pub fn unlock(table: &mut [u8], serial: u64, clock: Seconds, password: &[u8]) -> Answer
     ensures { result_of result table.new ≡ desk_after password_at (unlock_call password.now serial clock.0) table.old }
 {
-    let Typed::Is(p) = password_of(password) else {
-        return Answer::Refused(Refusal::BadArgument);
-    };
+    let p = password_of(password).ok_or(Refusal::BadArgument)?;
     serve(table, serial, clock, Request::Unlock(p), b"")
 }
 
@@ -82,9 +72,7 @@ pub fn suspend(table: &mut [u8], serial: u64, clock: Seconds) -> Answer
 pub fn resume(table: &mut [u8], serial: u64, clock: Seconds, password: &[u8]) -> Answer
     ensures { result_of result table.new ≡ desk_after password_at (resume_call password.now serial clock.0) table.old }
 {
-    let Typed::Is(p) = password_of(password) else {
-        return Answer::Refused(Refusal::BadArgument);
-    };
+    let p = password_of(password).ok_or(Refusal::BadArgument)?;
     serve(table, serial, clock, Request::Resume(p), b"")
 }
 
@@ -109,16 +97,17 @@ pub fn sync(
     ensures { result_of result table.new ≡ desk_after password_at (sync_call choice password.now following.now serial clock.0) table.old }
 {
     if !((choice == 1) | (choice == 2)) {
-        return Answer::Refused(Refusal::BadArgument);
+        return Err(Refusal::BadArgument);
     }
-    let Typed::Is(p) = password_of(password) else {
-        return Answer::Refused(Refusal::BadArgument);
-    };
-    let Typed::Is(q) = password_of(following) else {
-        return Answer::Refused(Refusal::BadArgument);
-    };
-    let size = size_of(choice);
-    serve(table, serial, clock, Request::Sync(size, p, q), b"")
+    let p = password_of(password).ok_or(Refusal::BadArgument)?;
+    let q = password_of(following).ok_or(Refusal::BadArgument)?;
+    serve(
+        table,
+        serial,
+        clock,
+        Request::Sync(size_of(choice), p, q),
+        b"",
+    )
 }
 
 // The call `void`.

@@ -7,10 +7,10 @@ ghost use Rattle.desk.specs.Desk.{result_of, desk_after};
 use crate::Particulars;
 use crate::arguments::table_ok;
 use row::{
-    KEY_BYTES, LAST_STATE, NOT_ACTIVATED, Place, ROW_BYTES, Row, find_empty, find_row, numbers_ok,
+    KEY_BYTES, LAST_STATE, NOT_ACTIVATED, ROW_BYTES, Row, find_empty, find_row, numbers_ok,
     write_row,
 };
-use token::{Answer, Content, Refusal};
+use token::{Answer, Content, Refusal, Success};
 use window::{FARTHEST, Offset, Seconds, Step, Track};
 
 const LOADED: u16 = 0x0140;
@@ -20,10 +20,8 @@ fn loaded_row(particulars: Particulars, key: &[u8]) -> Row
     requires { length key.now ≤ 32 }
     ensures { result ≡ loaded_row particulars key.now }
 {
-    let scheme = particulars.scheme;
-    let expiry = particulars.expiry;
     let track = Track {
-        scheme,
+        scheme: particulars.scheme,
         period: particulars.period,
         next: Step(0),
         offset: Offset(FARTHEST as u16),
@@ -36,7 +34,7 @@ fn loaded_row(particulars: Particulars, key: &[u8]) -> Row
         key_length: key.len() as u8,
         serial: particulars.serial,
         wait: particulars.wait,
-        expiry,
+        expiry: particulars.expiry,
         locked_at: Seconds(0),
         last_use: Seconds(0),
     }
@@ -57,14 +55,17 @@ pub fn load(table: &mut [u8], particulars: Particulars, key: &[u8]) -> Answer
     ensures { result_of result table.new ≡ desk_after password_at (DeskCall.load particulars key.now) table.old }
 {
     if !(table_ok(table) & load_ok(particulars, key)) {
-        return Answer::Refused(Refusal::BadArgument);
+        return Err(Refusal::BadArgument);
     }
-    if let Place::At(_) = find_row(table, ROW_BYTES, particulars.serial) {
-        return Answer::Refused(Refusal::AlreadyLoaded);
+    if find_row(table, ROW_BYTES, particulars.serial).is_some() {
+        return Err(Refusal::AlreadyLoaded);
     }
-    let Place::At(at) = find_empty(table, ROW_BYTES) else {
-        return Answer::Refused(Refusal::TableFull);
+    let Some(at) = find_empty(table, ROW_BYTES) else {
+        return Err(Refusal::TableFull);
     };
     write_row(table, at, loaded_row(particulars, key), key);
-    Answer::Success(LOADED, Content::Plain)
+    Ok(Success {
+        number: LOADED,
+        content: Content::Plain,
+    })
 }

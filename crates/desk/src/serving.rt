@@ -3,12 +3,12 @@ ghost use Rattle.std.specs.Prelude.{◌≡◌, ◌+◌, ◌≤◌, length};
 ghost use Rattle.window.specs.PasswordAt.{password_at};
 ghost use Rattle.row.specs.Row.{row_bytes};
 ghost use Rattle.desk.specs.Requests.{query_call, challenge_fits};
-ghost use Rattle.desk.specs.Desk.{result_of, left_at, missing, served, desk_after};
+ghost use Rattle.desk.specs.Desk.{result_of, left_at, served, desk_after};
 
 use crate::arguments::lent_ok;
 use otp::challenge_ok;
-use row::{KEY, LAST_STATE, Located, ROW_BYTES, locate, store_row, wipe_key};
-use token::{Answer, Key, Left, Refusal, Request, decide, report};
+use row::{KEY, LAST_STATE, ROW_BYTES, locate, store_row, wipe_key};
+use token::{Answer, Left, Refusal, Request, decide, report};
 use window::Seconds;
 
 // Leaves in the table what a decision leaves of the row at a place.
@@ -16,24 +16,13 @@ fn leave(table: &mut [u8], at: usize, left: Left)
     requires { at + row_bytes ≤ length table.old }
     ensures { table.new ≡ left_at table.old at left }
 {
-    let Left::Stored(row, key) = left else {
-        return;
-    };
-    store_row(table, at, row);
-    match key {
-        Key::Kept => {}
-        Key::Zeroed => wipe_key(table, at),
-    }
-}
-
-// What is said where there is no row to serve.
-fn missing(located: Located) -> Refusal
-    ensures { result ≡ missing located }
-{
-    match located {
-        Located::At(_, _) => Refusal::Unknown,
-        Located::Unknown => Refusal::Unknown,
-        Located::Damaged => Refusal::Damaged,
+    match left {
+        Left::Same => {}
+        Left::Stored(row) => store_row(table, at, row),
+        Left::Voided(row) => {
+            store_row(table, at, row);
+            wipe_key(table, at);
+        }
     }
 }
 
@@ -58,17 +47,13 @@ pub fn serve(
     ensures { result_of result table.new ≡ served password_at request challenge.now serial clock.0 table.old }
 {
     if !(lent_ok(table, clock) & challenge_fits(request, challenge)) {
-        return Answer::Refused(Refusal::BadArgument);
+        return Err(Refusal::BadArgument);
     }
-    let located = locate(table, ROW_BYTES, LAST_STATE, serial);
-    let Located::At(at, row) = located else {
-        return Answer::Refused(missing(located));
-    };
-    let start = at + KEY;
-    let end = start + row.key_length as usize;
-    let decision = decide(request, row, clock, &table[start..end], challenge);
-    let left = decision.left;
-    leave(table, at, left);
+    let located = locate(table, ROW_BYTES, LAST_STATE, serial)?;
+    let start = located.at + KEY;
+    let end = start + located.row.key_length as usize;
+    let decision = decide(request, located.row, clock, &table[start..end], challenge);
+    leave(table, located.at, decision.left);
     decision.answer
 }
 
@@ -77,11 +62,8 @@ pub fn query(table: &[u8], serial: u64, clock: Seconds) -> Answer
     ensures { result_of result table.now ≡ desk_after password_at (query_call serial clock.0) table.now }
 {
     if !lent_ok(table, clock) {
-        return Answer::Refused(Refusal::BadArgument);
+        return Err(Refusal::BadArgument);
     }
-    let located = locate(table, ROW_BYTES, LAST_STATE, serial);
-    let Located::At(_, row) = located else {
-        return Answer::Refused(missing(located));
-    };
-    report(row, clock)
+    let located = locate(table, ROW_BYTES, LAST_STATE, serial)?;
+    report(located.row, clock)
 }

@@ -1,5 +1,6 @@
 -- What the ledger machine's answers to a token can be: steps that are accepted are fresh, and 010a is answered only to a void.
-use Rattle.std.specs.Prelude.{ℕ, ◌≤◌, ◌≡◌, refl, true, List, eqb, leb}
+use Rattle.token.specs.Answers.{Answer, successful}
+use Rattle.std.specs.Prelude.{ℕ, ◌≤◌, ◌≡◌, refl, true, List, eqb, leb, Err}
 use Rattle.std.proofs.Math.Option.{Option, none, some}
 use Rattle.std.proofs.Common.{arith, eqb-true, leb-true}
 use Rattle.words.specs.Lists.{one_of}
@@ -10,7 +11,6 @@ use Rattle.window.specs.declared.Outcome.{Outcome}
 use Rattle.window.specs.PasswordAt.{PasswordRule}
 use Rattle.token.specs.declared.answers.Content.{Content}
 use Rattle.token.specs.declared.answers.Refusal.{Refusal}
-use Rattle.token.specs.declared.answers.Answer.{Answer}
 use Rattle.token.specs.declared.lines.Fails.{Fails}
 use Rattle.token.specs.declared.lines.Way.{Way}
 use Rattle.token.specs.Codes.{refusal_number, number_of}
@@ -36,7 +36,7 @@ module _ (passwords : PasswordRule) (l : Loaded) (m : Marks) (y : Reading) (seri
     pub fresh : StepFrom m.next (checked_of a)
     pub voids : eqb (number_of a) 0x010a ≡ true → (older : List Entry) (x : Reading) → (entered passwords l older (DeskCall.named request serial clock) a x).state ≡ 6
 
-  refusal-fits : (request : Request) (f : Refusal) → Fits request (Answer.Refused f)
+  refusal-fits : (request : Request) (f : Refusal) → Fits request (Err f)
   refusal-fits request f =
       record {
         fresh = tt;
@@ -47,7 +47,7 @@ module _ (passwords : PasswordRule) (l : Loaded) (m : Marks) (y : Reading) (seri
       }
 
   module _ (request : Request) {states : List ℕ} {success : ℕ} {way : Way} (listed : Listed request states success way) where
-    success-fits : (content : Content) → StepFrom m.next (checked_of (Answer.Success success content)) → Fits request (Answer.Success success content)
+    success-fits : (content : Content) → StepFrom m.next (checked_of (successful success content)) → Fits request (successful success content)
     success-fits content s =
         record {
           fresh = s;

@@ -1,5 +1,5 @@
 -- One call, over bytes and over tokens: on the table that renders serviceable tokens, the desk gives the tokens' answer and the table of the tokens after.
-use Rattle.std.specs.Prelude.{ℕ, ◌+◌, ◌-◌, ◌*◌, ◌/◌, ◌^◌, ◌≤◌, ◌<◌, ◌≡◌, true, ◌&&◌, cond, replicate}
+use Rattle.std.specs.Prelude.{ℕ, ◌+◌, ◌-◌, ◌*◌, ◌/◌, ◌^◌, ◌≤◌, ◌<◌, ◌≡◌, true, ◌&&◌, cond, replicate, Some, None}
 use Rattle.std.proofs.Math.Path.{refl}
 use Rattle.std.proofs.Common.{sym, ◌∙◌, zero-add, length-append}
 use mathlib.Core.List.{List, [], ◌∷◌, ◌++◌}
@@ -10,7 +10,6 @@ use Rattle.std.proofs.Math.Dec.{ltb}
 use Rattle.std.proofs.Math.ListN.{length, length-replicate}
 use Rattle.words.specs.BoolLaws.{by-test, and_left}
 use Rattle.window.specs.PasswordAt.{PasswordRule}
-use Rattle.row.specs.declared.reading.Place.{Place}
 use Rattle.row.specs.Row.{row_bytes, last_state}
 use Rattle.row.specs.Table.{find_row, find_empty, located, write_row}
 use Rattle.desk.specs.declared.Particulars.{Particulars}
@@ -81,7 +80,7 @@ module _ (width : ℕ) (long : row_bytes ≤ width) (rows : ℕ) where
         one-fits : width ≤ (rows - length ts) * width
         one-fits = let m = one_more in omega arith
 
-    empty-found : find_empty width (table_with width rows ts) ≡ cond (ltb (length ts) rows) (Place.At (0 + length ts * width)) Place.Nowhere
+    empty-found : find_empty width (table_with width rows ts) ≡ cond (ltb (length ts) rows) (Some (0 + length ts * width)) None
     unfolding find_empty
     empty-found =
         let e : ltb 0 (rows - length ts) ≡ ltb (length ts) rows =

@@ -1,6 +1,7 @@
 -- On any table, an answer of the desk has the code of a checked success exactly if it carries a step; so a token of which no step is accepted
 -- has none of these codes in its answers.
-use Rattle.std.specs.Prelude.{ℕ, ◌≡◌, refl, Bool, true, ◌&&◌, cond}
+use Rattle.token.specs.Answers.{Answer}
+use Rattle.std.specs.Prelude.{ℕ, ◌≡◌, refl, Bool, true, ◌&&◌, cond, Err}
 use Rattle.std.proofs.Math.Bool.{false}
 use mathlib.Core.List.{List, [], ◌∷◌, ◌++◌}
 use Rattle.std.proofs.Math.Option.{Option, none, some}
@@ -16,7 +17,6 @@ use Rattle.window.specs.declared.asked.Asked.{Asked}
 use Rattle.window.specs.PasswordAt.{PasswordRule}
 use Rattle.row.specs.declared.Row.{Row}
 use Rattle.token.specs.declared.answers.Refusal.{Refusal}
-use Rattle.token.specs.declared.answers.Answer.{Answer}
 use Rattle.token.specs.Codes.{refusal_number, number_of}
 use Rattle.desk.specs.Requests.{Request, DeskCall}
 use Rattle.desk.specs.Desk.{desk_after, run, checked_of}
@@ -34,7 +34,7 @@ carries (some checked) = true
 abbrev Coded : Answer → Type 0
 Coded answer = one_of (number_of answer) acceptance_codes ≡ carries (checked_of answer)
 
-refusal-coded : (f : Refusal) → Coded (Answer.Refused f)
+refusal-coded : (f : Refusal) → Coded (Err f)
 refusal-coded f =
     let n = refusal_number f in
     let h = leb-true 0x8000 n (refusal_high f) in

@@ -1,5 +1,6 @@
 -- Every history that the ledger machine makes is consistent.
-use Rattle.std.specs.Prelude.{ℕ, ◌<◌, ◌≡◌, refl, false, ◌&&◌, eqb, ltb, length}
+use Rattle.token.specs.Answers.{Answer, successful}
+use Rattle.std.specs.Prelude.{ℕ, ◌<◌, ◌≡◌, refl, false, ◌&&◌, eqb, ltb, length, Err}
 use Rattle.std.proofs.Common.{ap, ◌∙◌, arith, eqb-true, ltb-true}
 use mathlib.Core.List.{List, [], ◌∷◌, append-nil}
 use Rattle.std.proofs.Math.Option.{Option, none, some}
@@ -8,7 +9,6 @@ use Rattle.words.specs.BoolLaws.{by-test}
 use Rattle.window.specs.PasswordAt.{PasswordRule}
 use Rattle.token.specs.declared.answers.Content.{Content}
 use Rattle.token.specs.declared.answers.Refusal.{Refusal}
-use Rattle.token.specs.declared.answers.Answer.{Answer}
 use Rattle.token.specs.Codes.{refusal_number}
 use Rattle.desk.specs.declared.Particulars.{Particulars}
 use Rattle.desk.specs.Requests.{Request, DeskCall, clock_ok, request_ok, load_ok}
@@ -32,12 +32,12 @@ module _ (rows : ℕ) (history : List Entry) (c : Consistent rows history) where
       record { room = rw same c.room; distinct = rw same c.distinct; unmarked = λ serial m. let n = rw same at m in unmarked serial n ∙ c.unmarked serial n }
 
   module _ (p : Particulars) (key : List ℕ) where
-    refused-consistent : (f : Refusal) → eqb (refusal_number f) 0x0140 ≡ false → Consistent rows (with_entry (DeskCall.load p key) (Answer.Refused f) history)
+    refused-consistent : (f : Refusal) → eqb (refusal_number f) 0x0140 ≡ false → Consistent rows (with_entry (DeskCall.load p key) (Err f) history)
     unfolding loads
     refused-consistent f n = unloading_consistent _ (rw (n, append-nil (loads history))) (λ serial m. refused-marks serial _ history refl)
 
     loaded-consistent : length (loads history) < rows → load_of p.serial (loads history) ≡ none
-        → Consistent rows (with_entry (DeskCall.load p key) (Answer.Success 0x0140 Content.Plain) history)
+        → Consistent rows (with_entry (DeskCall.load p key) (successful 0x0140 Content.Plain) history)
     unfolding loads
     loaded-consistent l missing =
         record {
@@ -70,4 +70,4 @@ consistent-step passwords rows history (DeskCall.named request serial clock) c =
     by-test (clock_ok clock && request_ok request)
     (λ t. rw t (named-consistent rows history c request serial clock (requested_of passwords history clock request (load_of serial (loads history)))
     (λ missing. refused-marks serial _ history (ap (requested_of passwords history clock request) missing))))
-    (λ f. rw f (named-consistent rows history c request serial clock (Answer.Refused Refusal.BadArgument) (λ missing. refused-marks serial _ history refl)))
+    (λ f. rw f (named-consistent rows history c request serial clock (Err Refusal.BadArgument) (λ missing. refused-marks serial _ history refl)))

@@ -26,7 +26,8 @@ use Rattle.ledger.proofs.RangeLaws.{leaves-next, waited-leaves, state-leaves, fa
 -- what is left in place of the row r
 abbrev pub LeavesBy : Row → Left → Type 0
 LeavesBy r Left.Same = Unit {0}
-LeavesBy r (Left.Stored x key) = Leaves r x
+LeavesBy r (Left.Stored x) = Leaves r x
+LeavesBy r (Left.Voided x) = Leaves r x
 
 -- every state that a line sets is one of 1 to 6
 abbrev state_ok : After → Bool

@@ -1,4 +1,5 @@
 -- The proofs of the third demand for what is read into calls.
+use Rattle.token.specs.Answers.{Answer}
 use Rattle.std.specs.Prelude.{ℕ, ◌*◌, ◌≡◌, replicate}
 use Rattle.std.proofs.Math.Path.{refl}
 use Rattle.std.proofs.Common.{ap, ◌∙◌}
@@ -6,7 +7,6 @@ use mathlib.Core.List.{List, [], ◌∷◌}
 use Rattle.words.specs.BoolLaws.{clash}
 use Rattle.window.specs.PasswordAt.{PasswordRule}
 use Rattle.row.specs.Row.{row_bytes}
-use Rattle.token.specs.declared.answers.Answer.{Answer}
 use Rattle.desk.specs.Desk.{Run, desk_after, run}
 use Rattle.desk.specs.Reads.{Reads, read_after}
 use Rattle.ledger.specs.Demand3.{answers_of, accepted_steps, AfterVoid}

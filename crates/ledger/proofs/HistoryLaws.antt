@@ -1,6 +1,7 @@
 -- The tokens of a history, and one more call: the desk on tokens gives the ledger machine's answer and the tokens of the longer history.
+use Rattle.token.specs.Answers.{Answer, successful}
 use Prim.Native.Nat.{ℕ, suc, ◌-◌, ◌≤◌}
-use Rattle.std.specs.Prelude.{◌≡◌, Bool, true, false, ◌&&◌, cond, eqb, ltb, length}
+use Rattle.std.specs.Prelude.{◌≡◌, Bool, true, false, ◌&&◌, cond, eqb, ltb, length, Err}
 use Rattle.std.proofs.Math.Path.{refl, ap}
 use Rattle.std.proofs.Common.{sym, ◌∙◌, mul_comm}
 use mathlib.Core.List.{List, [], ◌∷◌, ◌++◌, append-nil}
@@ -11,7 +12,6 @@ use Rattle.window.specs.PasswordAt.{PasswordRule}
 use Rattle.row.specs.Row.{row_bytes}
 use Rattle.token.specs.declared.answers.Content.{Content}
 use Rattle.token.specs.declared.answers.Refusal.{Refusal}
-use Rattle.token.specs.declared.answers.Answer.{Answer}
 use Rattle.token.specs.Codes.{refusal_number}
 use Rattle.desk.specs.declared.Particulars.{Particulars}
 use Rattle.desk.specs.Requests.{Request, DeskCall, clock_ok, request_ok, load_ok}
@@ -37,7 +37,7 @@ module _ (passwords : PasswordRule) (e : Entry) (history : List Entry) where
       (apart_stay serial named ls (rest-missing serial l ls missing))
 
   -- a refusal by which no reading changes
-  refused_stay : {f : Refusal} → e.answer ≡ Answer.Refused f → ((l : Loaded) (older : List Entry) (r : Reading) → entered passwords l older e.call (Answer.Refused f) r ≡ r)
+  refused_stay : {f : Refusal} → e.answer ≡ Err f → ((l : Loaded) (older : List Entry) (r : Reading) → entered passwords l older e.call (Err f) r ≡ r)
       → (ls : List Loaded) → tokens_of passwords ls (e ∷ history) ≡ tokens_of passwords ls history
   unfolding tokens_of
   refused_stay a still [] = refl
@@ -94,7 +94,7 @@ module _ (passwords : PasswordRule) (history : List Entry) where
 
 module _ (passwords : PasswordRule) (p : Particulars) (key : List ℕ) (history : List Entry) where
   abbrev loading : Entry
-  loading = record { call = DeskCall.load p key; answer = Answer.Success 0x0140 Content.Plain }
+  loading = record { call = DeskCall.load p key; answer = successful 0x0140 Content.Plain }
 
   new_token : marks (entries_of p.serial history) ≡ marks [] → token_of passwords (loading ∷ history) (record { particulars = p; key = key }) ≡ loaded_token p key
   unfolding row_of key_of reading marks
@@ -111,10 +111,10 @@ module _ (passwords : PasswordRule) (p : Particulars) (key : List ℕ) (history 
       )
 
   load-refused : (f : Refusal) → eqb (refusal_number f) 0x0140 ≡ false
-      → record { answer = Answer.Refused f; tokens = tokens_of passwords (loads history) history } ≡ after_entry passwords (DeskCall.load p key) (Answer.Refused f) history
+      → record { answer = Err f; tokens = tokens_of passwords (loads history) history } ≡ after_entry passwords (DeskCall.load p key) (Err f) history
   unfolding loads
   load-refused f n =
-      rw (n, append-nil (loads history), refused_stay passwords (record { call = DeskCall.load p key; answer = Answer.Refused f }) history refl (λ l older r. rw n) (loads history))
+      rw (n, append-nil (loads history), refused_stay passwords (record { call = DeskCall.load p key; answer = Err f }) history refl (λ l older r. rw n) (loads history))
 
   loaded-among : (rows : ℕ) → Consistent rows history
       → loaded_among rows p key (tokens_of passwords (loads history) history)
@@ -123,10 +123,10 @@ module _ (passwords : PasswordRule) (p : Particulars) (key : List ℕ) (history 
       rw (has-token passwords history p.serial (loads history), length-tokens passwords history (loads history)) (beside (load_of p.serial (loads history)) refl)
     where
       beside : (o : Option Loaded) → load_of p.serial (loads history) ≡ o
-          → cond (is_loaded o) (record { answer = Answer.Refused Refusal.AlreadyLoaded; tokens = tokens_of passwords (loads history) history })
+          → cond (is_loaded o) (record { answer = Err Refusal.AlreadyLoaded; tokens = tokens_of passwords (loads history) history })
           (cond (ltb (length (loads history)) rows)
-          (record { answer = Answer.Success 0x0140 Content.Plain; tokens = tokens_of passwords (loads history) history ++ (loaded_token p key ∷ []) })
-          (record { answer = Answer.Refused Refusal.TableFull; tokens = tokens_of passwords (loads history) history }))
+          (record { answer = successful 0x0140 Content.Plain; tokens = tokens_of passwords (loads history) history ++ (loaded_token p key ∷ []) })
+          (record { answer = Err Refusal.TableFull; tokens = tokens_of passwords (loads history) history }))
           ≡ after_entry passwords (DeskCall.load p key) (loaded_of rows (loads history) o) history
       beside (some l) e = load-refused Refusal.AlreadyLoaded refl
       beside none e =
@@ -147,7 +147,7 @@ module _ (passwords : PasswordRule) (rows : ℕ) (history : List Entry) where
       (λ t. let a = requested_of passwords history clock request (load_of serial (loads history)) in
       rw (t, named-loads request serial clock a history)
       (served-among passwords history request serial clock (and_right (clock_ok clock) _ t) a (loads history) c.distinct good refl))
-      (λ f. rw (f, named-loads request serial clock (Answer.Refused Refusal.BadArgument) history)
+      (λ f. rw (f, named-loads request serial clock (Err Refusal.BadArgument) history)
       (after_equal refl (sym (refused_stay passwords _ history refl (λ l older r. bad_argument_enters passwords l older request serial clock r) (loads history)))))
 
 -- ---- the table

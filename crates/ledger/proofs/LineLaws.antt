@@ -1,4 +1,5 @@
 -- Part 5's table twice: a request's line in the ledger machine and the one that `token` has for it are the same, by tests that are computed.
+use Rattle.token.specs.Answers.{Answer}
 use Rattle.std.specs.Prelude.{ℕ, ◌≤◌, ◌≡◌, Bool, true, false, ◌&&◌, not, cond, eqb, get_or, replicate}
 use Rattle.std.proofs.Math.Path.{refl}
 use Rattle.std.proofs.Common.{sym, ◌∙◌, arith}
@@ -20,7 +21,6 @@ use Rattle.window.proofs.Meaning.{single-again, single-used}
 use Rattle.row.specs.Row.{all_of}
 use Rattle.row.specs.RangeLaws.{test-passes}
 use Rattle.token.specs.declared.answers.Refusal.{Refusal}
-use Rattle.token.specs.declared.answers.Answer.{Answer}
 use Rattle.token.specs.declared.lines.Fails.{Fails}
 use Rattle.token.specs.declared.lines.Way.{Way}
 use Rattle.token.specs.declared.lines.Way.TheVariants.{Changes, Checks}

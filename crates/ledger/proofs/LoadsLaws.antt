@@ -1,11 +1,11 @@
 -- The loads of a history: which of them have a serial, and what an entry adds to them.
+use Rattle.token.specs.Answers.{Answer}
 use Rattle.std.specs.Prelude.{ℕ, ◌≡◌, refl, false, eqb}
 use Rattle.std.proofs.Common.{sym}
 use mathlib.Core.List.{List, [], ◌∷◌, ◌++◌, append-nil}
 use Rattle.std.proofs.Math.Option.{none, some}
 use borrow.Author.Tests.{eqb-true, eqb-false, ne_eqb}
 use Rattle.words.specs.BoolLaws.{by-test, impossible}
-use Rattle.token.specs.declared.answers.Answer.{Answer}
 use Rattle.desk.specs.Requests.{Request, DeskCall}
 use Rattle.ledger.specs.Ledger.{Entry, Loaded, loads, load_of}
 use Rattle.ledger.specs.HistoryTokens.{with_entry, Distinct}

@@ -1,6 +1,7 @@
 -- A request does with one token what the ledger machine enters, part by part and for any line: refusals by state, expiry and the outcome of a check.
+use Rattle.token.specs.Answers.{Answer, successful}
 use Prim.Native.Nat.{ℕ, ◌+◌, ◌-◌, ◌/◌, min, max, ◌≤◌, ◌<◌}
-use Rattle.std.specs.Prelude.{◌≡◌, Bool, true, false, ◌&&◌, cond, List, []}
+use Rattle.std.specs.Prelude.{◌≡◌, Bool, true, false, ◌&&◌, cond, List, [], Err}
 use Rattle.std.proofs.Math.Path.{refl, sym}
 use Rattle.std.proofs.Common.{◌∙◌, ne_eqb}
 use Rattle.std.proofs.Math.Bool.{not}
@@ -20,12 +21,10 @@ use Rattle.window.specs.PasswordAt.{PasswordRule}
 use Rattle.row.specs.declared.Row.{Row}
 use Rattle.token.specs.declared.answers.Content.{Content}
 use Rattle.token.specs.declared.answers.Refusal.{Refusal}
-use Rattle.token.specs.declared.answers.Answer.{Answer}
 use Rattle.token.specs.declared.lines.Fails.{Fails}
 use Rattle.token.specs.declared.lines.Way.{Way}
 use Rattle.token.specs.declared.lines.After.{After}
 use Rattle.token.specs.declared.lines.Line.{Line}
-use Rattle.token.specs.declared.deciding.Key.{Key}
 use Rattle.token.specs.declared.deciding.Left.{Left}
 use Rattle.token.specs.declared.deciding.Decision.{Decision}
 use Rattle.token.specs.Lines.{line_of, allowed, state_refusal}
@@ -67,7 +66,7 @@ waited-reads l x m clock =
 -- ---- the parts of a request, on a row with the readings y, whose key is the token's
 
 module _ (passwords : PasswordRule) (l : Loaded) (y : Reading) (m : Marks) (clock : ℕ) (t : Token) (keyed : t.key ≡ key_of l y) where
-  stored-token : (r : Reading) (n : Marks) → eqb y.state 6 ≡ eqb r.state 6 → kept t (Left.Stored (row_of l r n) Key.Kept) ≡ token_with l r n
+  stored-token : (r : Reading) (n : Marks) → eqb y.state 6 ≡ eqb r.state 6 → kept t (Left.Stored (row_of l r n)) ≡ token_with l r n
   unfolding key_of
   stored-token r n e = rw (keyed, e)
 
@@ -98,7 +97,7 @@ module _ (passwords : PasswordRule) (l : Loaded) (y : Reading) (m : Marks) (cloc
     either_agrees false p q = q refl
 
     -- a refusal that is neither 9005 nor used nor wrong changes nothing
-    still_agrees : (f : Refusal) → quiet f → Alike (refusing f here) (Answer.Refused f)
+    still_agrees : (f : Refusal) → quiet f → Alike (refusing f here) (Err f)
     still_agrees f q = record { answer = refl; numbered = q.0; token = rw q.1 (stored-token y m refl) }
 
     state_agrees : 0 < y.state → y.state ≤ 6 → (a : Answer) → Alike (refusing (state_refusal y.state) here) (needing [] y.state a)
@@ -130,7 +129,7 @@ module _ (passwords : PasswordRule) (l : Loaded) (y : Reading) (m : Marks) (cloc
         followed : (r : Reading) (n : Marks) → r.state ≡ y.state → kept t (left_by line.after (row_of l r n)) ≡ token_with l (moved r (state_by line.after y.state)) n
         followed r n e = rw (← e) (left-token r n lives line.after (rw e (leads_to_void listed y.state high made)))
 
-        pub changing_agrees : Alike (changing line here) (Answer.Success success Content.Plain)
+        pub changing_agrees : Alike (changing line here) (successful success Content.Plain)
         changing_agrees =
             record {
               answer = rw listed.succeeds;
@@ -162,7 +161,7 @@ module _ (passwords : PasswordRule) (l : Loaded) (y : Reading) (m : Marks) (cloc
           counts-listed g t = and_right (not (eqb (refusal_number g) 0x9005)) _ t
 
           -- a refusal that adds an error
-          failed_agrees : (g : Refusal) → errs g ≡ true → counted press (refusal_number g) ≡ true → Alike (refusing g (failed here clock f.locks)) (Answer.Refused g)
+          failed_agrees : (g : Refusal) → errs g ≡ true → counted press (refusal_number g) ≡ true → Alike (refusing g (failed here clock f.locks)) (Err g)
           unfolding failed row_of
           failed_agrees g t o =
               let errors = min 255 (y.errors + 1) in
@@ -177,11 +176,11 @@ module _ (passwords : PasswordRule) (l : Loaded) (y : Reading) (m : Marks) (cloc
                     (stored-token (cond test locking counting) m (lives ∙ sym (either (λ (r : Reading). eqb r.state 6 ≡ false) test refl lives)));
               }
 
-          used_agrees : press ≡ false → Alike (refusing f.used (failed here clock f.locks)) (Answer.Refused f.used)
+          used_agrees : press ≡ false → Alike (refusing f.used (failed here clock f.locks)) (Err f.used)
           used_agrees p = failed_agrees f.used failing.used (counts_unpressed (refusal_number f.used) press p (counts-listed f.used failing.used))
 
           -- presented again: a login forgives it
-          again_agrees : press ≡ is_login request → Alike (refusing f.used (repeated here clock f.forgives f.locks)) (Answer.Refused f.used)
+          again_agrees : press ≡ is_login request → Alike (refusing f.used (repeated here clock f.forgives f.locks)) (Err f.used)
           again_agrees p =
               by-test (is_login request)
               (λ b.
@@ -197,6 +196,6 @@ module _ (passwords : PasswordRule) (l : Loaded) (y : Reading) (m : Marks) (cloc
           outcome_agrees Outcome.Wrong checked = failed_agrees f.wrong failing.wrong (other-counts (refusal_number f.wrong) press failing.other (counts-listed f.wrong failing.wrong))
 
           pub check_agrees : {asked : Asked} (o : Outcome) → Checked passwords l m y clock request asked o
-              → Alike (timely line f here clock o) (cond (leb l.particulars.expiry.0 clock) (Answer.Refused Refusal.Expired) (judged_by success f.several f.used f.wrong (track_of l m) clock o))
+              → Alike (timely line f here clock o) (cond (leb l.particulars.expiry.0 clock) (Err Refusal.Expired) (judged_by success f.several f.used f.wrong (track_of l m) clock o))
           unfolding row_of
           check_agrees o checked = either_agrees (leb l.particulars.expiry.0 clock) (λ t. still_agrees Refusal.Expired (refl, refl)) (λ t. outcome_agrees o checked)

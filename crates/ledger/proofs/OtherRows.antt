@@ -1,14 +1,12 @@
 -- A call naming a token changes no other token's row: on any table, damaged rows included.
-use Rattle.std.specs.Prelude.{ℕ, ◌+◌, ◌*◌, ◌≤◌, ◌≡◌, ◌⊎◌, true, false, ◌&&◌, List, length, take, drop}
+use Rattle.std.specs.Prelude.{ℕ, ◌+◌, ◌*◌, ◌≤◌, ◌≡◌, ◌⊎◌, true, false, ◌&&◌, List, length, take, drop, Some, None}
 use Rattle.std.proofs.Math.Path.{refl}
 use Rattle.std.proofs.Common.{inl, inr, ⊎_elim, mul_comm, arith}
 use borrow.Author.Tests.{eqb-true}
 use Rattle.words.specs.BoolLaws.{either}
 use Rattle.window.specs.PasswordAt.{PasswordRule}
-use Rattle.row.specs.declared.reading.Place.{Place}
-use Rattle.row.specs.declared.reading.Located.{Located}
 use Rattle.row.specs.Row.{row_bytes, last_state, well_formed}
-use Rattle.row.specs.Table.{is_empty, has_serial, find_row, located_at, located}
+use Rattle.row.specs.Table.{Place, Sought, is_empty, has_serial, find_row, located_at, located}
 use Rattle.row.specs.FoundLaws.{found_within, found-apart, empty-within, empty-apart}
 use Rattle.row.specs.OutsideLaws.{Outside, write_outside, elsewhere-stays}
 use Rattle.desk.specs.Requests.{Request, DeskCall, table_ok, clock_ok, request_ok, valued, challenge_of, loaded_row}
@@ -35,10 +33,10 @@ module _ (passwords : PasswordRule) (s : List ℕ) (i : ℕ) (room : row_bytes *
 
   served-stays : (request : Request) (serial clock : ℕ) → has_serial s serial (i * row_bytes) ≡ false → (place : Place) → find_row row_bytes s serial ≡ place
       → Stays (served_from passwords (valued request) (challenge_of request) clock s (located_at last_state s place))
-  served-stays request serial clock other (Place.At at) e =
-      either (λ (x : Located). Stays (served_from passwords (valued request) (challenge_of request) clock s x)) (well_formed last_state s at)
+  served-stays request serial clock other (Some at) e =
+      either (λ (x : Sought). Stays (served_from passwords (valued request) (challenge_of request) clock s x)) (well_formed last_state s at)
       (row_stays (served-outside passwords (valued request) (challenge_of request) clock s at (found_within row_bytes s serial long at e)) (found-apart row_bytes s serial at e i other)) refl
-  served-stays request serial clock other Place.Nowhere e = refl
+  served-stays request serial clock other None e = refl
 
   desk_stays : (call : DeskCall) (serial : ℕ) → names call serial ≡ true → is_empty s (i * row_bytes) ≡ false → has_serial s serial (i * row_bytes) ≡ false
       → Stays (desk_after passwords call s)

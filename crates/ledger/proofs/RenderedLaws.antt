@@ -1,6 +1,6 @@
 -- The searches and the calls on the table that renders a list of tokens in rows of a width, with zero rows behind them.
 use Prim.Native.Nat.{ℕ, zero, suc, ◌+◌, ◌-◌, ◌*◌, ◌^◌, ◌≤◌, ◌<◌}
-use Rattle.std.specs.Prelude.{◌≡◌, Bool, true, false, cond, eqb, ltb, get_or}
+use Rattle.std.specs.Prelude.{◌≡◌, Bool, true, false, cond, eqb, ltb, get_or, Some, None}
 use Rattle.std.proofs.Math.Path.{refl}
 use Rattle.std.proofs.Common.{sym, ◌∙◌, suc-add, zero-add, length-append, get_or-append-add}
 use mathlib.Core.List.{List, [], ◌∷◌, ◌++◌, append_assoc, append-nil}
@@ -13,7 +13,6 @@ use Rattle.std.proofs.Math.Seq.{take_at, drop_at, drop-drop}
 use Rattle.words.specs.ListsLaws.{drop_zeros}
 use Rattle.words.specs.BoolLaws.{by-test}
 use Rattle.window.specs.PasswordAt.{PasswordRule}
-use Rattle.row.specs.declared.reading.Place.{Place}
 use Rattle.row.specs.Row.{row_bytes, last_state}
 use Rattle.row.specs.RowLaws.{length-render}
 use Rattle.row.specs.Table.{is_empty, has_serial, first_row, find_empty, located_at, zero_filled, write_row}
@@ -43,7 +42,7 @@ module _ (s before : List ℕ) (n at : ℕ) (stands : s ≡ before ++ replicate 
   no-serial-behind serial = rw empty-behind
 
 module _ (width : ℕ) (long : row_bytes ≤ width) where
-  none_passes : (test : ℕ → Bool) (count at : ℕ) → ((i : ℕ) → at ≤ i → test i ≡ false) → first_row width test count at ≡ Place.Nowhere
+  none_passes : (test : ℕ → Bool) (count at : ℕ) → ((i : ℕ) → at ≤ i → test i ≡ false) → first_row width test count at ≡ None
   unfolding first_row
   none_passes test zero at h = refl
   none_passes test (suc count) at h = rw (h at (omega arith)) (none_passes test count (at + width) (λ i l. h i (omega arith)))
@@ -138,7 +137,7 @@ module _ (width : ℕ) (long : row_bytes ≤ width) where
   -- the first empty row is the first behind the tokens
   pub empty-among : (s : List ℕ) (n count : ℕ) (ts : List Token) (before : List ℕ) (at : ℕ)
       → s ≡ before ++ (rendered width ts ++ replicate n 0) → length before ≡ at → AllServiceable ts
-      → first_row width (is_empty s) (length ts + count) at ≡ cond (ltb 0 count) (Place.At (at + length ts * width)) Place.Nowhere
+      → first_row width (is_empty s) (length ts + count) at ≡ cond (ltb 0 count) (Some (at + length ts * width)) None
   unfolding rendered first_row
   empty-among s n zero [] before at stands place all = refl
   empty-among s n (suc count) [] before at stands place all =

@@ -1,4 +1,5 @@
 -- Every request does with one token what the ledger machine enters: the same answer, and the token with the readings after it.
+use Rattle.token.specs.Answers.{Answer}
 use Rattle.std.specs.Prelude.{ℕ, ◌-◌, ◌≤◌, ◌<◌, ◌≡◌, true, false, ◌&&◌, List, eqb, leb, take, replicate}
 use Rattle.std.proofs.Math.Path.{refl}
 use Rattle.std.proofs.Common.{◌∙◌, arith, eqb-true, take_at}
@@ -8,7 +9,6 @@ use Rattle.window.specs.declared.Outcome.{Outcome}
 use Rattle.window.specs.declared.asked.Asked.{Asked}
 use Rattle.window.specs.PasswordAt.{PasswordRule}
 use Rattle.row.specs.Row.{key_bytes}
-use Rattle.token.specs.declared.answers.Answer.{Answer}
 use Rattle.token.specs.declared.lines.Fails.{Fails}
 use Rattle.token.specs.declared.lines.Way.TheVariants.{Changes, Checks}
 use Rattle.token.specs.Deciding.{deciding, decided}

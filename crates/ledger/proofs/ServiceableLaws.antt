@@ -10,7 +10,6 @@ use Rattle.words.specs.BoolLaws.{and_left, either, either-by}
 use Rattle.window.specs.PasswordAt.{PasswordRule}
 use Rattle.row.specs.Row.{key_bytes}
 use Rattle.row.specs.WriteLaws.{length-zero_filled}
-use Rattle.token.specs.declared.deciding.Key.{Key}
 use Rattle.token.specs.declared.deciding.Left.{Left}
 use Rattle.desk.specs.declared.Particulars.{Particulars}
 use Rattle.desk.specs.Requests.{Request, DeskCall, clock_ok, request_ok, valued, challenge_of, load_ok}
@@ -27,9 +26,9 @@ zeros_are-zero (suc n) = zeros_are-zero n
 
 kept-serviceable : (t : Token) → Serviceable t → (left : Left) → LeavesBy t.row left → Serviceable (kept t left)
 kept-serviceable t s Left.Same leaves = s
-kept-serviceable t s (Left.Stored x Key.Kept) leaves =
+kept-serviceable t s (Left.Stored x) leaves =
     record { live = leaves.live; serial = rw leaves.same.serial s.serial; long = s.long; filled = rw leaves.same.key_length s.filled }
-kept-serviceable t s (Left.Stored x Key.Zeroed) leaves =
+kept-serviceable t s (Left.Voided x) leaves =
     record {
       live = leaves.live;
       serial = rw leaves.same.serial s.serial;

@@ -1,5 +1,5 @@
 -- A token whose row stands in a table between other bytes: what is read of it, and what a request leaves.
-use Rattle.std.specs.Prelude.{ℕ, ◌+◌, ◌^◌, ◌<◌, ◌≡◌, true, false, eqb, length, get_or, drop, replicate}
+use Rattle.std.specs.Prelude.{ℕ, ◌+◌, ◌^◌, ◌<◌, ◌≡◌, true, false, eqb, length, get_or, drop, replicate, Some}
 use Rattle.std.proofs.Common.{sym, ◌∙◌, ne_eqb, length-append, take_at, drop_at, take-take}
 use Rattle.std.proofs.Math.Path.{ap}
 use mathlib.Core.List.{List, ◌++◌, append_assoc}
@@ -10,14 +10,12 @@ use Rattle.words.specs.Lists.{all_zero}
 use Rattle.words.specs.Bytes.{be_bytes}
 use Rattle.window.specs.PasswordAt.{PasswordRule}
 use Rattle.row.specs.declared.Row.{Row}
-use Rattle.row.specs.declared.reading.Place.{Place}
 use Rattle.row.specs.Row.{key_bytes, last_state, row_at, key_at, before_key, step_bytes, time_bytes, render, zeros_ok, well_formed}
 use Rattle.row.specs.RowLaws.{numbers_parsed, key_parsed, length-before_key}
 use Rattle.row.specs.RangeLaws.{length_in_range}
 use Rattle.row.specs.StoreLaws.{SameParticulars, store_behind}
 use Rattle.row.specs.StoreLaws as stores
 use Rattle.row.specs.Table.{has_serial, is_empty, located_at, store_row, wipe_key}
-use Rattle.token.specs.declared.deciding.Key.{Key}
 use Rattle.token.specs.declared.deciding.Left.{Left}
 use Rattle.desk.specs.Requests.{Request, valued, challenge_of}
 use Rattle.desk.specs.Desk.{secret_at, left_at, served_at, served_from}
@@ -110,13 +108,13 @@ module _ (s : List ℕ) (at : ℕ) (t : Token) (before behind : List ℕ) (stand
 
   left-stands : (left : Left) → LeavesBy t.row left → left_at s at left ≡ between before (kept t left) behind
   left-stands Left.Same leaves = stands
-  left-stands (Left.Stored x Key.Kept) leaves = row-stored s at t.row t.key before behind stands place good.long x leaves.same
-  left-stands (Left.Stored x Key.Zeroed) leaves =
+  left-stands (Left.Stored x) leaves = row-stored s at t.row t.key before behind stands place good.long x leaves.same
+  left-stands (Left.Voided x) leaves =
       key_wiped (store_row s at x) at x t.key before behind
       (row-stored s at t.row t.key before behind stands place good.long x leaves.same) place good.long
 
   pub request_served : (passwords : PasswordRule) (request : Request) (clock : ℕ) → clock < 2 ^ 40
-      → served_from passwords (valued request) (challenge_of request) clock s (located_at last_state s (Place.At at))
+      → served_from passwords (valued request) (challenge_of request) clock s (located_at last_state s (Some at))
       ≡ record { answer = (decided_on passwords request clock t).answer; table = between before (kept t (decided_on passwords request clock t).left) behind }
   unfolding served_at
   request_served passwords request clock h =

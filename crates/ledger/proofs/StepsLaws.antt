@@ -1,4 +1,5 @@
 -- The accepted steps of a token rise, over the ledger machine's own answers.
+use Rattle.token.specs.Answers.{Answer}
 use Rattle.std.specs.Prelude.{ℕ, ◌<◌, ◌≡◌, refl, true, ◌&&◌, ltb, length}
 use mathlib.Core.List.{List, [], ◌∷◌, ◌++◌}
 use Rattle.std.proofs.Math.Option.{Option, none, some}
@@ -8,7 +9,6 @@ use Rattle.words.specs.BoolLaws.{by-test, either}
 use Rattle.window.specs.declared.Step.{Step}
 use Rattle.window.specs.declared.Offset.{Offset}
 use Rattle.window.specs.PasswordAt.{PasswordRule}
-use Rattle.token.specs.declared.answers.Answer.{Answer}
 use Rattle.desk.specs.Requests.{Request, DeskCall, clock_ok, request_ok, load_ok}
 use Rattle.desk.specs.Desk.{checked_of}
 use Rattle.ledger.specs.Ledger.{Entry, Loaded, Marks, names, entries_of, loads, load_of, clock_of, marked, marks, run_out, reading, requested_of, loaded_of, answer_to, ledger_from, ledger}

@@ -1,10 +1,10 @@
 -- One token of a history, and one more entry: an entry that does not name it leaves it, and one that does is what the desk does with it.
-use Rattle.std.specs.Prelude.{ℕ, ◌≡◌, true, false, List, ◌∷◌}
+use Rattle.token.specs.Answers.{Answer}
+use Rattle.std.specs.Prelude.{ℕ, ◌≡◌, true, false, List, ◌∷◌, Err}
 use Rattle.std.proofs.Common.{eq-eqb}
 use Rattle.words.specs.BoolLaws.{by-test}
 use Rattle.window.specs.PasswordAt.{PasswordRule}
 use Rattle.token.specs.declared.answers.Refusal.{Refusal}
-use Rattle.token.specs.declared.answers.Answer.{Answer}
 use Rattle.desk.specs.Requests.{Request, DeskCall, request_ok}
 use Rattle.ledger.specs.Ledger.{Entry, Loaded, Reading, names, entries_of, marks, is_query, entered, reading, requested_by, row_of}
 use Rattle.ledger.specs.Tokens.{Serviceable, decided_on, kept}
@@ -24,7 +24,7 @@ module _ (serial : ℕ) (e : Entry) (history : List Entry) where
   named-entries n = rw n
 
   -- a refusal marks nothing
-  pub refused-marks : {f : Refusal} → e.answer ≡ Answer.Refused f → marks (entries_of serial (e ∷ history)) ≡ marks (entries_of serial history)
+  pub refused-marks : {f : Refusal} → e.answer ≡ Err f → marks (entries_of serial (e ∷ history)) ≡ marks (entries_of serial history)
   unfolding marks
   refused-marks a = by-test (names e.call serial) (λ t. rw (named-entries t, a)) (λ n. rw (unnamed_entries n))
 
@@ -33,7 +33,7 @@ module _ (passwords : PasswordRule) (e : Entry) (history : List Entry) (l : Load
   unnamed_stays n = rw (unnamed_entries l.particulars.serial e history n)
 
   -- a refusal by which no reading changes
-  pub refused-stays : {f : Refusal} → e.answer ≡ Answer.Refused f → ((older : List Entry) (r : Reading) → entered passwords l older e.call (Answer.Refused f) r ≡ r)
+  pub refused-stays : {f : Refusal} → e.answer ≡ Err f → ((older : List Entry) (r : Reading) → entered passwords l older e.call (Err f) r ≡ r)
       → token_of passwords (e ∷ history) l ≡ token_of passwords history l
   unfolding reading marks
   refused-stays a still =
@@ -42,7 +42,7 @@ module _ (passwords : PasswordRule) (e : Entry) (history : List Entry) (l : Load
       unnamed_stays
 
 pub bad_argument_enters : (passwords : PasswordRule) (l : Loaded) (older : List Entry) (request : Request) (serial clock : ℕ) (r : Reading)
-    → entered passwords l older (DeskCall.named request serial clock) (Answer.Refused Refusal.BadArgument) r ≡ r
+    → entered passwords l older (DeskCall.named request serial clock) (Err Refusal.BadArgument) r ≡ r
 bad_argument_enters passwords l older request serial clock r = by-test (is_query request) (λ t. rw t) (λ f. rw f)
 
 -- ---- a request to the token

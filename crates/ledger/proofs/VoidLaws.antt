@@ -1,4 +1,5 @@
 -- A void token accepts nothing, for ever, over the ledger machine's own answers.
+use Rattle.token.specs.Answers.{Answer}
 use Rattle.std.specs.Prelude.{ℕ, ◌≡◌, false, ◌&&◌, ltb, length}
 use Rattle.std.proofs.Math.Path.{refl, ap}
 use Rattle.std.proofs.Common.{sym, ◌∙◌}
@@ -9,7 +10,6 @@ use borrow.Author.Tests.{eqb-true, eq-eqb}
 use Rattle.std.proofs.Math.Dec.{eqb}
 use Rattle.words.specs.BoolLaws.{by-test, and_left, and_right, either, clash}
 use Rattle.window.specs.PasswordAt.{PasswordRule}
-use Rattle.token.specs.declared.answers.Answer.{Answer}
 use Rattle.token.specs.declared.lines.Way.{Way}
 use Rattle.token.specs.Codes.{number_of}
 use Rattle.desk.specs.Requests.{Request, DeskCall, clock_ok, request_ok, load_ok}

@@ -1,5 +1,6 @@
 -- The buyer's third demand (docs/OFFER.md), for every password rule. This page has the statements; `Demand3Laws`, `CodesLaws` and `OtherRows` have
 -- the proofs.
+use Rattle.token.specs.Answers.{Answer}
 use Rattle.std.specs.Prelude.{ℕ, ◌+◌, ◌*◌, ◌≤◌, ◌<◌, ◌≡◌, true, false, ◌&&◌, cond, List, [], ◌∷◌, ◌++◌, eqb, length, take, drop, replicate}
 use Rattle.std.proofs.Math.Option.{Option, none, some}
 use Rattle.words.specs.Lists.{one_of}
@@ -9,7 +10,6 @@ use Rattle.window.specs.declared.Offset.{Offset}
 use Rattle.window.specs.PasswordAt.{PasswordRule}
 use Rattle.row.specs.Row.{row_bytes}
 use Rattle.row.specs.Table.{is_empty, has_serial}
-use Rattle.token.specs.declared.answers.Answer.{Answer}
 use Rattle.token.specs.Codes.{number_of}
 use Rattle.desk.specs.Requests.{DeskCall}
 use Rattle.desk.specs.Desk.{desk_after, run, checked_of}

@@ -1,9 +1,9 @@
 -- The third demand for what is read into calls (document 02, Ask 1): whoever chooses messages chooses no more than calls. This page has the statements;
 -- `Demand3ReadsLaws` has the proofs.
+use Rattle.token.specs.Answers.{Answer}
 use Rattle.std.specs.Prelude.{ℕ, ◌*◌, ◌≤◌, ◌≡◌, Bool, true, false, ◌&&◌, cond, List, [], ◌∷◌, ◌++◌, eqb, replicate}
 use Rattle.window.specs.PasswordAt.{PasswordRule}
 use Rattle.row.specs.Row.{row_bytes}
-use Rattle.token.specs.declared.answers.Answer.{Answer}
 use Rattle.token.specs.Codes.{number_of}
 use Rattle.desk.specs.Desk.{run, checked_of}
 use Rattle.desk.specs.Reads.{Reads}

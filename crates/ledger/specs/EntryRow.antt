@@ -1,6 +1,6 @@
 -- What a request leaves of a token agrees with the answer that the ledger machine enters.
+use Rattle.token.specs.Answers.{Answer}
 use Rattle.std.specs.Prelude.{ℕ, ◌≡◌, false, eqb}
-use Rattle.token.specs.declared.answers.Answer.{Answer}
 use Rattle.token.specs.declared.deciding.Decision.{Decision}
 use Rattle.token.specs.Codes.{number_of}
 use Rattle.window.specs.PasswordAt.{PasswordRule}

@@ -1,8 +1,8 @@
 -- The tokens of a history, and what holds of every history that the ledger machine makes.
+use Rattle.token.specs.Answers.{Answer}
 use Rattle.std.specs.Prelude.{ℕ, ◌≤◌, ◌≡◌, List, [], ◌∷◌, length}
 use Rattle.std.proofs.Math.Option.{none}
 use Rattle.window.specs.PasswordAt.{PasswordRule}
-use Rattle.token.specs.declared.answers.Answer.{Answer}
 use Rattle.desk.specs.Requests.{DeskCall}
 use Rattle.ledger.specs.Ledger.{Entry, Loaded, Marks, Reading, entries_of, loads, load_of, marks, reading, row_of, key_of}
 use Rattle.ledger.specs.Tokens.{Token, TokensAfter}

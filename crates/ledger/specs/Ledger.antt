@@ -1,6 +1,7 @@
 -- The ledger machine (document 01, "The ledger machine"): it is fed the number of rows and the calls, and keeps the list of earlier calls with
 -- the answers that it gave itself. No byte of the desk's table is known to it.
-use Rattle.std.specs.Prelude.{ℕ, ◌+◌, ◌-◌, ◌*◌, ◌/◌, min, max, Bool, true, false, ◌&&◌, ◌||◌, not, cond, List, [], ◌∷◌, ◌++◌, eqb, leb, ltb, length, replicate}
+use Rattle.token.specs.Answers.{Answer, successful}
+use Rattle.std.specs.Prelude.{ℕ, ◌+◌, ◌-◌, ◌*◌, ◌/◌, min, max, Bool, true, false, ◌&&◌, ◌||◌, not, cond, List, [], ◌∷◌, ◌++◌, eqb, leb, ltb, length, replicate, Err, Ok}
 use Rattle.std.proofs.Math.Option.{Option, none, some}
 use Rattle.words.specs.Lists.{one_of}
 use Rattle.window.specs.declared.Size.{Size}
@@ -17,7 +18,6 @@ use Rattle.row.specs.Row.{row_bytes, key_bytes, render}
 use Rattle.row.specs.Table.{zero_filled}
 use Rattle.token.specs.declared.answers.Content.{Content}
 use Rattle.token.specs.declared.answers.Refusal.{Refusal}
-use Rattle.token.specs.declared.answers.Answer.{Answer}
 use Rattle.token.specs.Codes.{number_of}
 use Rattle.desk.specs.declared.Particulars.{Particulars}
 use Rattle.desk.specs.Requests.{Request, DeskCall, clock_ok, request_ok, load_ok}
@@ -171,8 +171,8 @@ module _ (passwords : PasswordRule) (l : Loaded) (m : Marks) where
 
   -- other refusals change nothing more
   abbrev pub answered : Request → ℕ → Answer → Reading → Reading
-  answered request clock (Answer.Success number content) r = succeeded request (Answer.Success number content) r
-  answered request clock (Answer.Refused refusal) r = cond (counted (pressed request clock) (number_of (Answer.Refused refusal))) (erred l request clock r) r
+  answered request clock (Ok success) r = succeeded request (Ok success) r
+  answered request clock (Err refusal) r = cond (counted (pressed request clock) (number_of (Err refusal))) (erred l request clock r) r
 
 abbrev pub is_query : Request → Bool
 is_query (Request.login password) = false
@@ -202,7 +202,7 @@ reading passwords l (e ∷ older) = entered passwords l older e.call e.answer (r
 abbrev pub needing : List ℕ → ℕ → Answer → Answer
 needing states state answer =
     cond (one_of state states) answer
-    (Answer.Refused (cond (eqb state 2) Refusal.Ready
+    (Err (cond (eqb state 2) Refusal.Ready
     (cond (one_of state (3 ∷ 4 ∷ [])) Refusal.Locked
     (cond (eqb state 5) Refusal.Suspended
     (cond (eqb state 1) Refusal.Inactive Refusal.Void)))))
@@ -213,11 +213,11 @@ offset_with k clock a = record { 0 = cond (eqb k.scheme.kind time_token) (farthe
 
 -- a check's outcome: the success with step and d, the call for the next password (document 02, Ask 5), used or wrong
 abbrev pub judged_by : ℕ → Refusal → Refusal → Refusal → Track → ℕ → Outcome → Answer
-judged_by success unclear stale missed k clock (Outcome.Accepted a) = Answer.Success success (Content.Checked a (offset_with k clock a.0))
-judged_by success unclear stale missed k clock Outcome.Several = Answer.Refused unclear
-judged_by success unclear stale missed k clock Outcome.Again = Answer.Refused stale
-judged_by success unclear stale missed k clock Outcome.Used = Answer.Refused stale
-judged_by success unclear stale missed k clock Outcome.Wrong = Answer.Refused missed
+judged_by success unclear stale missed k clock (Outcome.Accepted a) = successful success (Content.Checked a (offset_with k clock a.0))
+judged_by success unclear stale missed k clock Outcome.Several = Err unclear
+judged_by success unclear stale missed k clock Outcome.Again = Err stale
+judged_by success unclear stale missed k clock Outcome.Used = Err stale
+judged_by success unclear stale missed k clock Outcome.Wrong = Err missed
 
 -- a request to a loaded token, whose reading r has a wait run out by the clock
 module _ (passwords : PasswordRule) (l : Loaded) (m : Marks) (r : Reading) (clock : ℕ) where
@@ -232,10 +232,10 @@ module _ (passwords : PasswordRule) (l : Loaded) (m : Marks) (r : Reading) (cloc
   -- 8408 comes before the check
   abbrev pub with_check : List ℕ → ℕ → Refusal → Refusal → Refusal → Outcome → Answer
   with_check states success several used wrong outcome =
-      needing states r.state (cond (leb l.particulars.expiry.0 clock) (Answer.Refused Refusal.Expired) (judged_by success several used wrong (track_of l m) clock outcome))
+      needing states r.state (cond (leb l.particulars.expiry.0 clock) (Err Refusal.Expired) (judged_by success several used wrong (track_of l m) clock outcome))
 
   abbrev pub without_check : List ℕ → ℕ → Answer
-  without_check states success = needing states r.state (Answer.Success success Content.Plain)
+  without_check states success = needing states r.state (successful success Content.Plain)
 
   -- Part 5's table: the needed states, the success, what several, used and wrong are called, the check; no pair has several
   abbrev pub requested : Request → Answer
@@ -249,24 +249,24 @@ module _ (passwords : PasswordRule) (l : Loaded) (m : Marks) (r : Reading) (cloc
   requested (Request.sync choice password following) =
       with_check (2 ∷ 3 ∷ 4 ∷ []) 0x0108 Refusal.NextWanted Refusal.Used Refusal.WrongAtSync (pair (cond (eqb choice 1) Medium Large) password following)
   requested Request.void = without_check (1 ∷ 2 ∷ 3 ∷ 4 ∷ 5 ∷ []) 0x010a
-  requested Request.query = Answer.Success 0x010b (Content.Queried (record { state = r.state; errors = r.errors; last_use = record { 0 = m.used } }))
+  requested Request.query = successful 0x010b (Content.Queried (record { state = r.state; errors = r.errors; last_use = record { 0 = m.used } }))
 
 abbrev pub requested_by : PasswordRule → Loaded → List Entry → ℕ → Request → Answer
 requested_by passwords l entries clock request = requested passwords l (marks entries) (run_out l clock (reading passwords l entries)) clock request
 
 abbrev pub requested_of : PasswordRule → List Entry → ℕ → Request → Option Loaded → Answer
-requested_of passwords history clock request none = Answer.Refused Refusal.Unknown
+requested_of passwords history clock request none = Err Refusal.Unknown
 requested_of passwords history clock request (some l) = requested_by passwords l (entries_of l.particulars.serial history) clock request
 
 abbrev pub loaded_of : ℕ → List Loaded → Option Loaded → Answer
-loaded_of rows ls (some l) = Answer.Refused Refusal.AlreadyLoaded
-loaded_of rows ls none = cond (ltb (length ls) rows) (Answer.Success 0x0140 Content.Plain) (Answer.Refused Refusal.TableFull)
+loaded_of rows ls (some l) = Err Refusal.AlreadyLoaded
+loaded_of rows ls none = cond (ltb (length ls) rows) (successful 0x0140 Content.Plain) (Err Refusal.TableFull)
 
 unfoldable pub answer_to : PasswordRule → ℕ → List Entry → DeskCall → Answer
 answer_to passwords rows history (DeskCall.load p key) =
-    cond (load_ok p key) (loaded_of rows (loads history) (load_of p.serial (loads history))) (Answer.Refused Refusal.BadArgument)
+    cond (load_ok p key) (loaded_of rows (loads history) (load_of p.serial (loads history))) (Err Refusal.BadArgument)
 answer_to passwords rows history (DeskCall.named request serial clock) =
-    cond (clock_ok clock && request_ok request) (requested_of passwords history clock request (load_of serial (loads history))) (Answer.Refused Refusal.BadArgument)
+    cond (clock_ok clock && request_ok request) (requested_of passwords history clock request (load_of serial (loads history))) (Err Refusal.BadArgument)
 
 -- ---- the table: the readings in Part 4's layout
 

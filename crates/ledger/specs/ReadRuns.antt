@@ -1,7 +1,7 @@
 -- A list of what is read into calls or refused before (document 02, Ask 1), each on the table as the last one left it.
-use Rattle.std.specs.Prelude.{ℕ, List, [], ◌∷◌}
+use Rattle.token.specs.Answers.{Answer}
+use Rattle.std.specs.Prelude.{ℕ, List, [], ◌∷◌, Err}
 use Rattle.window.specs.PasswordAt.{PasswordRule}
-use Rattle.token.specs.declared.answers.Answer.{Answer}
 use Rattle.desk.specs.Requests.{DeskCall}
 use Rattle.desk.specs.Desk.{Run, preceded}
 use Rattle.desk.specs.Reads.{Reads, read_after}
@@ -19,7 +19,7 @@ calls_in (Reads.refuses refusal ∷ asked) = calls_in asked
 -- the answers to these calls, with the refusals of the others in their places
 unfoldable pub in_place : List Reads → List Answer → List Answer
 in_place [] answers = []
-in_place (Reads.refuses refusal ∷ asked) answers = Answer.Refused refusal ∷ in_place asked answers
+in_place (Reads.refuses refusal ∷ asked) answers = Err refusal ∷ in_place asked answers
 in_place (Reads.serves call ∷ asked) [] = []
 in_place (Reads.serves call ∷ asked) (answer ∷ answers) = answer ∷ in_place asked answers
 

@@ -1,5 +1,6 @@
 -- Between the desk and the ledger machine: the desk on a list of tokens in place of bytes. No statement of the buyer's rests on it.
-use Rattle.std.specs.Prelude.{ℕ, ◌-◌, ◌*◌, ◌^◌, ◌<◌, ◌≡◌, Bool, true, false, ◌&&◌, cond, List, [], ◌∷◌, ◌++◌, eqb, ltb, length, take, drop, replicate}
+use Rattle.token.specs.Answers.{Answer, successful}
+use Rattle.std.specs.Prelude.{ℕ, ◌-◌, ◌*◌, ◌^◌, ◌<◌, ◌≡◌, Bool, true, false, ◌&&◌, cond, List, [], ◌∷◌, ◌++◌, eqb, ltb, length, take, drop, replicate, Err}
 use Rattle.words.specs.Lists.{all_zero}
 use Rattle.window.specs.PasswordAt.{PasswordRule}
 use Rattle.row.specs.declared.Row.{Row}
@@ -8,8 +9,6 @@ use Rattle.row.specs.Table.{zero_filled}
 use Rattle.row.specs.StoreLaws.{SameParticulars}
 use Rattle.token.specs.declared.answers.Content.{Content}
 use Rattle.token.specs.declared.answers.Refusal.{Refusal}
-use Rattle.token.specs.declared.answers.Answer.{Answer}
-use Rattle.token.specs.declared.deciding.Key.{Key}
 use Rattle.token.specs.declared.deciding.Left.{Left}
 use Rattle.token.specs.declared.deciding.Decision.{Decision}
 use Rattle.token.specs.Deciding.{decided}
@@ -32,15 +31,15 @@ decided_on passwords request clock t = decided passwords (valued request) t.row 
 
 abbrev pub kept : Token → Left → Token
 kept t Left.Same = t
-kept t (Left.Stored r Key.Kept) = record { row = r; key = t.key }
-kept t (Left.Stored r Key.Zeroed) = record { row = r; key = replicate key_bytes 0 }
+kept t (Left.Stored r) = record { row = r; key = t.key }
+kept t (Left.Voided r) = record { row = r; key = replicate key_bytes 0 }
 
 abbrev pub behind_token : Token → TokensAfter → TokensAfter
 behind_token t after = record { answer = after.answer; tokens = t ∷ after.tokens }
 
 -- the first token with the serial serves
 unfoldable pub served_among : PasswordRule → Request → ℕ → ℕ → List Token → TokensAfter
-served_among passwords request serial clock [] = record { answer = Answer.Refused Refusal.Unknown; tokens = [] }
+served_among passwords request serial clock [] = record { answer = Err Refusal.Unknown; tokens = [] }
 served_among passwords request serial clock (t ∷ ts) =
     cond (eqb t.row.serial serial)
     (record { answer = (decided_on passwords request clock t).answer; tokens = kept t (decided_on passwords request clock t).left ∷ ts })
@@ -55,15 +54,15 @@ loaded_token p key = record { row = loaded_row p key; key = zero_filled key }
 
 abbrev pub loaded_among : ℕ → Particulars → List ℕ → List Token → TokensAfter
 loaded_among rows p key ts =
-    cond (has_token p.serial ts) (record { answer = Answer.Refused Refusal.AlreadyLoaded; tokens = ts })
+    cond (has_token p.serial ts) (record { answer = Err Refusal.AlreadyLoaded; tokens = ts })
     (cond (ltb (length ts) rows)
-    (record { answer = Answer.Success 0x0140 Content.Plain; tokens = ts ++ (loaded_token p key ∷ []) })
-    (record { answer = Answer.Refused Refusal.TableFull; tokens = ts }))
+    (record { answer = successful 0x0140 Content.Plain; tokens = ts ++ (loaded_token p key ∷ []) })
+    (record { answer = Err Refusal.TableFull; tokens = ts }))
 
 unfoldable pub tokens_after : PasswordRule → ℕ → DeskCall → List Token → TokensAfter
-tokens_after passwords rows (DeskCall.load p key) ts = cond (load_ok p key) (loaded_among rows p key ts) (record { answer = Answer.Refused Refusal.BadArgument; tokens = ts })
+tokens_after passwords rows (DeskCall.load p key) ts = cond (load_ok p key) (loaded_among rows p key ts) (record { answer = Err Refusal.BadArgument; tokens = ts })
 tokens_after passwords rows (DeskCall.named request serial clock) ts =
-    cond (clock_ok clock && request_ok request) (served_among passwords request serial clock ts) (record { answer = Answer.Refused Refusal.BadArgument; tokens = ts })
+    cond (clock_ok clock && request_ok request) (served_among passwords request serial clock ts) (record { answer = Err Refusal.BadArgument; tokens = ts })
 
 -- ---- the table of a list of tokens, in rows of a width
 

@@ -9,7 +9,7 @@ use Rattle.lines.specs.Lines.{kept, Put}
 
 -- a text was copied into the part of the output that is as long
 pub text-put : (s : List ℕ) (at : ℕ) (b : List ℕ) {part : List ℕ} → at + length b ≤ length s
-    → part ≡ take (length b) b ++ drop (length b) (take (at + length b - at) (drop at s))
+    → part ≡ b ++ drop (length b) (take (at + length b - at) (drop at s))
     → Put s at b (take at s ++ (part ++ drop (at + length b - at) (drop at s))) (at + length b)
 text-put s at b h e =
     let l : length (take at s ++ b) ≡ at + length b = rw (length-append, length-take-le at s (omega arith)) in

@@ -1,10 +1,7 @@
 -- The tests on items as they are lent: one by one they come to what can be written.
-use Rattle.std.specs.Prelude.{ℕ, suc, ◌+◌, ◌*◌, ◌-◌, ◌^◌, ◌≤◌, ◌<◌, ◌≡◌, refl, Bool, true, false, ◌&&◌, ◌||◌, not, List, [], ◌∷◌, eqb, leb, ltb, length, get_or, take, drop}
-use Rattle.std.proofs.Common.{sym, ap, arith, leb-true, leb-false, ltb-false, eqb-true, lt-ltb, le-ltb, length-append, length-drop, length-take-le}
-use Rattle.std.proofs.Math.Numerals.{add-one}
+use Rattle.std.specs.Prelude.{ℕ, suc, ◌+◌, ◌*◌, ◌-◌, ◌^◌, ◌≤◌, ◌≡◌, ◌⊎◌, refl, Bool, true, false, ◌&&◌, ◌||◌, not, List, [], ◌∷◌, eqb, leb, ltb, length, take, drop}
+use Rattle.std.proofs.Common.{inl, inr, sym, ap, arith, leb-true, leb-false, ltb-false, eqb-true, lt-ltb, le-ltb, length-append, length-drop, length-take-le}
 use Rattle.std.proofs.lemmas.Bool.{not-true}
-use Rattle.std.proofs.Math.ListN.{drop_of_length-le}
-use Rattle.std.proofs.Math.Seq.{drop-cons}
 use Rattle.words.specs.BoolLaws.{and_left, and_right, and_false, and_assoc, or_left, or_right, by-test, impossible}
 use Rattle.words.specs.Lists.{one_of}
 use Rattle.message.specs.declared.reading.Heading.{Heading}
@@ -34,31 +31,31 @@ fit-room low id n left f =
     }
 
 -- the items that are left fit if all do
-pub record Fitting (identifiers lengths : List ℕ) (contents low left i : ℕ) : Type 0 where
-  pub short : i ≤ length identifiers
-  pub same : lent_fit low (drop i identifiers) (drop i lengths) left ≡ lent_fit 0 identifiers lengths contents
+pub record Fitting (identifiers lengths : List ℕ) (contents low left : ℕ) (ids lens : List ℕ) : Type 0 where
+  pub counts : length ids ≡ length lens
+  pub same : lent_fit low ids lens left ≡ lent_fit 0 identifiers lengths contents
 
-module _ (identifiers lengths : List ℕ) (i low left : ℕ) where
-  pub fit-end : length identifiers ≤ i → length lengths ≤ i → lent_fit low (drop i identifiers) (drop i lengths) left ≡ eqb left 0
+module _ (identifiers lengths : List ℕ) (contents low left : ℕ) where
+  pub fit-end : (ids lens : List ℕ) → Fitting identifiers lengths contents low left ids lens → (ids ≡ []) ⊎ (lens ≡ []) → eqb left 0 ≡ lent_fit 0 identifiers lengths contents
   unfolding lent_fit
-  fit-end p q = rw (drop_of_length-le identifiers p, drop_of_length-le lengths q)
+  fit-end [] [] f e = f.same
+  fit-end [] (n ∷ lens) f e = let counts = f.counts in absurd (omega arith)
+  fit-end (id ∷ ids) [] f e = let counts = f.counts in absurd (omega arith)
+  fit-end (id ∷ ids) (n ∷ lens) f (inl e) = impossible (cc)
+  fit-end (id ∷ ids) (n ∷ lens) f (inr e) = impossible (cc)
 
-  module _ (p : i < length identifiers) (q : i < length lengths) where
-    abbrev id : ℕ
-    id = get_or identifiers i 0
-
-    abbrev n : ℕ
-    n = get_or lengths i 0
-
-    fit-here : lent_fit low (drop i identifiers) (drop i lengths) left ≡ not (misfit low id n left) && lent_fit (id + 1) (drop (i + 1) identifiers) (drop (i + 1) lengths) (left - n)
+  module _ {id n : ℕ} {ids lens left-ids left-lens : List ℕ} (f : Fitting identifiers lengths contents low left ids lens) (here : ids ≡ id ∷ left-ids) (there : lens ≡ n ∷ left-lens) where
+    fit-here : not (misfit low id n left) && lent_fit (id + 1) left-ids left-lens (left - n) ≡ lent_fit 0 identifiers lengths contents
     unfolding lent_fit
-    fit-here = rw (drop-cons identifiers i 0 p, drop-cons lengths i 0 q, add-one i)
+    fit-here = rw (here, there) at f.same
 
-    pub fit_not : misfit low id n left ≡ true → lent_fit low (drop i identifiers) (drop i lengths) left ≡ false
-    fit_not t = rw (fit-here, t)
+    pub fit_not : misfit low id n left ≡ true → false ≡ lent_fit 0 identifiers lengths contents
+    fit_not t = rw t at fit-here
 
-    pub fit_next : misfit low id n left ≡ false → lent_fit low (drop i identifiers) (drop i lengths) left ≡ lent_fit (id + 1) (drop (i + 1) identifiers) (drop (i + 1) lengths) (left - n)
-    fit_next f = rw (fit-here, f)
+    pub fit_next : misfit low id n left ≡ false → Fitting identifiers lengths contents (id + 1) (left - n) left-ids left-lens
+    fit_next m =
+        let counts : suc (length left-ids) ≡ suc (length left-lens) = rw (here, there) at f.counts in
+        record { counts = omega arith; same = rw m at fit-here }
 
 -- ---- what fits is lent together
 

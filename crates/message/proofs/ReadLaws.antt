@@ -1,9 +1,8 @@
 -- Bytes are read as a message exactly if they are its bytes with some MAC; and a marked MAC fits exactly if it is that of the message.
-use Rattle.std.specs.Prelude.{ℕ, ◌+◌, ◌≤◌, ◌≡◌, refl, Bool, true, false, cond, get_or, take, drop}
+use Rattle.std.specs.Prelude.{ℕ, ◌+◌, ◌≤◌, ◌≡◌, refl, Bool, true, false, cond, get_or, take, drop, Some}
 use Rattle.std.proofs.Math.Path.{sym}
 use Rattle.std.proofs.Common.{ap, ◌∙◌, arith, take_at, drop_at}
 use mathlib.Core.List.{List, [], ◌∷◌, ◌++◌, append_assoc}
-use Rattle.std.proofs.Math.Option.{some}
 use Rattle.std.proofs.Math.ListN.{length, length-append, length-drop}
 use Rattle.std.proofs.Math.Seq.{length-take-le}
 use Rattle.std.proofs.lemmas.List.{get_or_at}
@@ -189,7 +188,7 @@ module _ (mac : List ℕ) (m : Message) (f : Fits mac m) where
   unfolding message_at
   message-read = rw (kind-read, caller-read, number_read, service-read, options-read, count-read, items-read-here.same)
 
-pub frame_written : (mac : List ℕ) (m : Message) → Fits mac m → frame_of (bytes_with mac m) ≡ some m
+pub frame_written : (mac : List ℕ) (m : Message) → Fits mac m → frame_of (bytes_with mac m) ≡ Some m
 unfolding frame_of
 frame_written mac m f = rw (facts_fit _ (facts_written mac m f), message-read mac m f)
 

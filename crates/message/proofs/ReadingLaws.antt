@@ -1,129 +1,133 @@
 -- What each branch of reading a message and its items returns.
-use Rattle.std.specs.Prelude.{ℕ, zero, suc, ◌+◌, ◌-◌, ◌≤◌, ◌<◌, ◌≡◌, refl, Bool, true, false, not, List, length}
+use Rattle.std.specs.Prelude.{ℕ, zero, suc, ◌+◌, ◌-◌, ◌≤◌, ◌≡◌, refl, Bool, true, false, List, [], ◌∷◌, length, get_or, take, drop, eqb, slice_get, find, Option, Some, None, Result, Ok, Err, option_map}
 use Rattle.std.proofs.Common.{sym, ap, ◌∙◌, arith}
-use borrow.Author.Tests.{not-true, not-false}
 use Rattle.words.specs.Bytes.{be_at}
 use Rattle.words.specs.BoolLaws.{by-test, impossible}
 use Rattle.token.specs.declared.answers.Refusal.{Refusal}
-use Rattle.message.specs.declared.frame.Head.{Head}
-use Rattle.message.specs.declared.frame.Framed.{Framed}
-use Rattle.message.specs.declared.reading.Reading.{Reading}
-use Rattle.message.specs.declared.reading.ItemPlace.{ItemPlace}
-use Rattle.message.specs.declared.reading.ItemRead.{ItemRead}
-use Rattle.message.specs.declared.reading.HeadRead.{HeadRead}
-use Rattle.message.specs.Message.{item_end, items_end, body_start, count_in, items_start, frame_fits, frame_of, message_at, mac_fits}
-use Rattle.message.specs.Reading.{MessageRead, read_of, reading_of, place_of, place_in, item_of}
-use Rattle.message.specs.Walking.{head_at, framed_as, HeadOf, head_read}
-use Rattle.message.specs.WalkLaws.{length-items_at, left_end, item-within}
-use Rattle.message.specs.FrameLaws.{fits-long}
-use Rattle.message.specs.HeadLaws.{whole-head, not_framed}
+use Rattle.message.specs.declared.items.ItemPlace.{ItemPlace}
+use Rattle.message.specs.Message.{Item, item_end, items_at, items_end, count_in, items_start, frame_fits, frame_of, message_at, mac_fits}
+use Rattle.message.specs.Reading.{MessageRead, read_of, places, places_in, place_in, item_of, content_in}
+use Rattle.message.specs.Walking.{framed_as, sealed_as}
+use Rattle.message.specs.WalkLaws.{end-behind}
+use Rattle.message.specs.FrameLaws.{items-end}
 
--- ---- the head
+-- ---- bytes that are a message, with a MAC that fits
 
-module _ (s : List ℕ) {x : Framed} (framed : x ≡ framed_as s) where
-  pub head-malformed : x ≡ Framed.Malformed → HeadRead.Refused Refusal.BadMessage ≡ head_read s
-  unfolding head_read
-  head-malformed m = rw (not_framed s framed m)
+module _ (s : List ℕ) where
+  pub not_framed : framed_as s ≡ None → frame_fits s ≡ false
+  unfolding framed_as
+  not_framed e =
+      by-test (frame_fits s)
+      (λ t. let h : ◌≡◌ {A = Option (List ℕ)} (Some s) None = rw t at e in impossible (cc))
+      (λ f. f)
 
-  module _ {head : Head} (w : x ≡ Framed.Whole head) {fits : Bool} (mac : fits ≡ mac_fits s) where
-    pub head_unsealed : not fits ≡ true → HeadRead.Refused Refusal.BadMac ≡ head_read s
-    unfolding head_read
-    head_unsealed n = rw ((whole-head s framed w).fits, ← mac, not-true fits n)
+  pub is-framed : {f : List ℕ} → framed_as s ≡ Some f → (frame_fits s ≡ true) × (f ≡ s)
+  unfolding framed_as
+  is-framed {f} e =
+      by-test (frame_fits s)
+      (λ t. let h : Some s ≡ Some f = rw t at e in (t, cc))
+      (λ n. let h : ◌≡◌ {A = Option (List ℕ)} None (Some f) = rw n at e in impossible (cc))
 
-    pub head-sealed : not fits ≡ false → HeadRead.Is head ≡ head_read s
-    unfolding head_read
-    head-sealed n = rw ((whole-head s framed w).fits, ← mac, not-false fits n, (whole-head s framed w).is)
+-- what they say
+abbrev pub said : Result (List ℕ) Refusal → MessageRead
+said (Ok s) = Ok (message_at s)
+said (Err refusal) = Err refusal
 
--- ---- what it comes to
+module _ (s : List ℕ) where
+  pub read-said : read_of s ≡ said (sealed_as (framed_as s))
+  unfolding read_of frame_of framed_as
+  read-said = by-test (frame_fits s) (λ t. rw t (by-test (mac_fits s) (λ mac. rw mac) (λ other. rw other))) (λ f. rw f)
 
--- the message that has the head
-pub data ReadAs (s : List ℕ) : HeadRead → Type 0 where
-  refused : (refusal : Refusal) → read_of s ≡ MessageRead.refused refusal → ReadAs s (HeadRead.Refused refusal)
-  whole : HeadOf s (head_at s) → read_of s ≡ MessageRead.read (message_at s) → ReadAs s (HeadRead.Is (head_at s))
+  -- they are the bytes that were given
+  pub same-bytes : {f : List ℕ} → sealed_as (framed_as s) ≡ Ok f → f ≡ s
+  unfolding framed_as
+  same-bytes {f} e =
+      by-test (frame_fits s)
+      (λ t. by-test (mac_fits s)
+      (λ mac. let h : ◌≡◌ {A = Result (List ℕ) Refusal} (Ok s) (Ok f) = rw (t, mac) at e in cc)
+      (λ other. let h : ◌≡◌ {A = Result (List ℕ) Refusal} (Err Refusal.BadMac) (Ok f) = rw (t, other) at e in impossible (cc)))
+      (λ n. let h : ◌≡◌ {A = Result (List ℕ) Refusal} (Err Refusal.BadMessage) (Ok f) = rw n at e in impossible (cc))
 
-read_as : (s : List ℕ) → ReadAs s (head_read s)
-unfolding head_read read_of frame_of
-read_as s =
-    by-test (frame_fits s)
-    (λ t. by-test (mac_fits s)
-    (λ mac. rw (t, mac) (ReadAs.whole (record { fits = t; is = refl }) (rw (t, mac))))
-    (λ other. rw (t, other) (ReadAs.refused Refusal.BadMac (rw (t, other)))))
-    (λ f. rw f (ReadAs.refused Refusal.BadMessage (rw f)))
+same_map : (r : Option ItemPlace) → r ≡ option_map (λ x. x) r
+same_map None = refl
+same_map (Some p) = refl
 
-module _ (s : List ℕ) {x : HeadRead} (e : x ≡ head_read s) where
-  pub refused-read : {refusal : Refusal} → x ≡ HeadRead.Refused refusal → read_of s ≡ MessageRead.refused refusal
-  refused-read {refusal} r = by (head_read s) (read_as s) (sym e ∙ r)
-    where
-      by : (y : HeadRead) → ReadAs s y → y ≡ HeadRead.Refused refusal → read_of s ≡ MessageRead.refused refusal
-      by y (ReadAs.refused other q) p = let same : other ≡ refusal = cc in q ∙ rw same
-      by y (ReadAs.whole h q) p = impossible (cc)
+pub item-placed : (s : List ℕ) (i : ℕ) {f : List ℕ} → sealed_as (framed_as s) ≡ Ok f → {r : Option ItemPlace} → option_map (λ x. x) r ≡ slice_get (places_in f) i → Ok r ≡ item_of s i
+item-placed s i e {r} there =
+    let here : r ≡ slice_get (places_in s) i = same_map r ∙ rw (same-bytes s e) at there in
+    rw (read-said s, e, here)
 
-  pub whole-read : {head : Head} → x ≡ HeadRead.Is head → HeadOf s head × (read_of s ≡ MessageRead.read (message_at s))
-  whole-read {head} w = by (head_read s) (read_as s) (sym e ∙ w)
-    where
-      by : (y : HeadRead) → ReadAs s y → y ≡ HeadRead.Is head → HeadOf s head × (read_of s ≡ MessageRead.read (message_at s))
-      by y (ReadAs.refused other q) p = impossible (cc)
-      by y (ReadAs.whole h q) p = let same : head_at s ≡ head = cc in (record { fits = h.fits; is = sym same }, q)
+-- ---- the items that are left
 
-  pub reading-refused : {refusal : Refusal} → x ≡ HeadRead.Refused refusal → Reading.Refused refusal ≡ reading_of (read_of s)
-  reading-refused r = rw (refused-read r)
+pub places_none : (n : ℕ) (s : List ℕ) (at : ℕ) → n ≡ 0 → places n s at ≡ []
+unfolding places
+places_none n s at e = rw e
 
-  module _ {head : Head} (w : x ≡ HeadRead.Is head) where
-    -- the body stands before the items
-    pub body-before : head.items - 5 ≡ body_start s
-    body-before = let h = whole-read w in rw h.0.is (omega arith)
+pub places_next : (n : ℕ) (s : List ℕ) (at : ℕ) → (n ≡ 0 → ⊥)
+    → places n s at ≡ record { identifier = be_at 2 s (at + 1); start = at + 4; end = item_end s at } ∷ places (n - 1) s (item_end s at)
+unfolding places
+places_next zero s at d = absurd (d refl)
+places_next (suc n) s at d = let z : suc n - 1 ≡ n = omega arith in rw z
 
-    pub reading-whole : {caller number service options : ℕ} → caller ≡ be_at 8 s 3 → number ≡ be_at 8 s 11 → service ≡ be_at 2 s (head.items - 5) → options ≡ be_at 2 s (head.items - 5 + 2)
-        → Reading.Read (record { kind = head.kind; caller = caller; number = number; service = service; options = options }) head.count ≡ reading_of (read_of s)
+-- ---- an item by its identifier
+
+module _ (id : ℕ) where
+  abbrev pub is_place : ItemPlace → Bool
+  is_place p = eqb p.identifier id
+
+  abbrev pub is_item : Item → Bool
+  is_item i = eqb i.identifier id
+
+  pub place-absent : (n : ℕ) (s : List ℕ) (at : ℕ) → find is_place (places n s at) ≡ None → find is_item (items_at n s at) ≡ None
+  unfolding places items_at
+  place-absent zero s at e = refl
+  place-absent (suc n) s at e =
+      by-test (eqb (be_at 2 s (at + 1)) id)
+      (λ t. let h : ◌≡◌ {A = Option ItemPlace} (Some _) None = rw t at e in impossible (cc))
+      (λ f. rw f (place-absent n s (item_end s at) (rw f at e)))
+
+  -- where an item's content stands, and what it is
+  pub record There (n : ℕ) (s : List ℕ) (at : ℕ) (p : ItemPlace) : Type 0 where
+    pub ordered : p.start ≤ p.end
+    pub before : p.end ≤ items_end n s at
+    pub content : content_in id (items_at n s at) ≡ Some (take (p.end - p.start) (drop p.start s))
+
+  pub place-there : (n : ℕ) (s : List ℕ) (at : ℕ) {p : ItemPlace} → find is_place (places n s at) ≡ Some p → There n s at p
+  unfolding places items_at items_end
+  place-there zero s at {p} e = impossible (cc)
+  place-there (suc n) s at {p} e =
+      by-test (eqb (be_at 2 s (at + 1)) id)
+      (λ t. let h : Some (record { identifier = be_at 2 s (at + 1); start = at + 4; end = item_end s at }) ≡ Some p = rw t at e in
+      let here : record { identifier = be_at 2 s (at + 1); start = at + 4; end = item_end s at } ≡ p = cc in
+      let start : at + 4 ≡ p.start = ap (λ (q : ItemPlace). q.start) here in
+      let end : item_end s at ≡ p.end = ap (λ (q : ItemPlace). q.end) here in
+      let z : p.end - p.start ≡ get_or s (at + 3) 0 = omega arith in
+      let w = end-behind n s (item_end s at) in
+      record { ordered = omega arith; before = omega arith; content = rw (t, z, ← start) })
+      (λ f. let r = place-there n s (item_end s at) {p = p} (rw f at e) in
+      record { ordered = r.ordered; before = r.before; content = rw f r.content })
+
+-- of all items
+module _ (id : ℕ) (s : List ℕ) where
+  pub content-none : find (is_place id) (places_in s) ≡ None → None ≡ content_in id (message_at s).items
+  unfolding message_at
+  content-none e = rw (place-absent id (count_in s) s (items_start s) e)
+
+  module _ {p : ItemPlace} (e : find (is_place id) (places_in s) ≡ Some p) where
+    there : There id (count_in s) s (items_start s) p
+    there = place-there id (count_in s) s (items_start s) e
+
+    pub content-room : frame_fits s ≡ true → (p.start ≤ p.end) × (p.end ≤ length s)
+    content-room fits = let e = items-end s fits in let b = there.before in (there.ordered, omega arith)
+
+    pub content-there : Some (take (p.end - p.start) (drop p.start s)) ≡ content_in id (message_at s).items
     unfolding message_at
-    reading-whole p q a b = let h = whole-read w in rw (h.1, p, q, a, b, body-before, h.0.is, length-items_at)
-
-    pub body-room : (5 ≤ head.items) × (head.items ≤ length s)
-    body-room =
-        let h = whole-read w in
-        let long = (fits-long s h.0.fits).0 in
-        rw h.0.is (omega arith, long)
-
-  pub item_refused : (i : ℕ) {refusal : Refusal} → x ≡ HeadRead.Refused refusal → ItemRead.Refused refusal ≡ item_of s i
-  item_refused i r = rw (refused-read r)
-
-  pub item-placed : (i : ℕ) {head : Head} → x ≡ HeadRead.Is head → {r : ItemRead} → r ≡ place_of head.count i s head.items → r ≡ item_of s i
-  item-placed i w p = let h = whole-read w in p ∙ rw (h.1, h.0.is)
-
--- ---- the walk to an item
-
-pub place_none : (n i : ℕ) (s : List ℕ) (at : ℕ) → n ≤ 0 → place_of n i s at ≡ ItemRead.Nothing
-unfolding place_of
-place_none n i s at l = let z : n ≡ 0 = omega arith in rw z
-
-pub place_here : (n i : ℕ) (s : List ℕ) (at : ℕ) → 0 < n → i ≡ 0 → place_of n i s at ≡ ItemRead.Is (record { identifier = be_at 2 s (at + 1); start = at + 4; end = item_end s at })
-unfolding place_of
-place_here zero i s at p e = absurd (omega arith)
-place_here (suc n) i s at p e = rw e
-
-pub place-next : (n i : ℕ) (s : List ℕ) (at : ℕ) → 0 < n → (i ≡ 0 → ⊥) → place_of n i s at ≡ place_of (n - 1) (i - 1) s (item_end s at)
-unfolding place_of
-place-next zero i s at p d = absurd (omega arith)
-place-next (suc n) zero s at p d = absurd (d refl)
-place-next (suc n) (suc i) s at p d = let a : suc n - 1 ≡ n = omega arith in let b : suc i - 1 ≡ i = omega arith in rw (a, b)
-
--- what is left of the items, and of the way to the one that is asked for
-pub record Walking (s : List ℕ) (count index items left i at : ℕ) : Type 0 where
-  pub ends : items_end left s at ≡ length s
-  pub same : place_of left i s at ≡ place_of count index s items
-
-pub walking_on : (s : List ℕ) (count index items left i at : ℕ) → Walking s count index items left i at → 0 < left → (i ≡ 0 → ⊥)
-    → Walking s count index items (left - 1) (i - 1) (item_end s at)
-walking_on s count index items left i at w p d = record { ends = sym (left_end left s at p) ∙ w.ends; same = sym (place-next left i s at p d) ∙ w.same }
-
--- an item that is left lies in the message
-pub walking_room : (s : List ℕ) (count index items left i at : ℕ) → Walking s count index items left i at → 0 < left → item_end s at ≤ length s
-walking_room s count index items left i at w p = item-within left s at p w.ends
+    content-there = sym there.content
 
 -- ---- where an item's content stands
 
-place-ordered : (n i : ℕ) (s : List ℕ) (at : ℕ) {place : ItemPlace} → place_of n i s at ≡ ItemRead.Is place → place.start ≤ place.end
-unfolding place_of
+place-ordered : (n i : ℕ) (s : List ℕ) (at : ℕ) {place : ItemPlace} → slice_get (places n s at) i ≡ Some place → place.start ≤ place.end
+unfolding places
 place-ordered zero i s at e = impossible (cc)
 place-ordered (suc n) zero s at {place} e =
     let here : record { identifier = be_at 2 s (at + 1); start = at + 4; end = item_end s at } ≡ place = cc in
@@ -132,9 +136,9 @@ place-ordered (suc n) zero s at {place} e =
     omega arith
 place-ordered (suc n) (suc i) s at e = place-ordered n i s (item_end s at) e
 
-pub item-ordered : (s : List ℕ) (i : ℕ) {place : ItemPlace} → item_of s i ≡ ItemRead.Is place → place.start ≤ place.end
+pub item-ordered : (s : List ℕ) (i : ℕ) {place : ItemPlace} → item_of s i ≡ Ok (Some place) → place.start ≤ place.end
 item-ordered s i {place} e = by (read_of s) e
   where
-    by : (r : MessageRead) → place_in s i r ≡ ItemRead.Is place → place.start ≤ place.end
-    by (MessageRead.read m) p = place-ordered (count_in s) i s (items_start s) p
-    by (MessageRead.refused refusal) p = impossible (cc)
+    by : (r : MessageRead) → place_in s i r ≡ Ok (Some place) → place.start ≤ place.end
+    by (Ok m) p = let e : slice_get (places_in s) i ≡ Some place = cc in place-ordered (count_in s) i s (items_start s) e
+    by (Err refusal) p = impossible (cc)

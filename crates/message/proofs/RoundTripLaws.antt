@@ -1,8 +1,8 @@
 -- Reading and writing undo each other, and what is not written.
-use Rattle.std.specs.Prelude.{ℕ, ◌≡◌, refl, true, false, List, ◌++◌, leb, length, take, drop}
+use Rattle.std.specs.Prelude.{ℕ, ◌≡◌, refl, true, false, List, ◌++◌, leb, length, take, drop, Ok}
 use Rattle.std.proofs.Common.{sym, ap, ◌∙◌, arith, leb-true, leb-false, take_at, drop_at}
 use Rattle.words.specs.ListsLaws.{same_refl}
-use Rattle.words.specs.BoolLaws.{by-test, clash}
+use Rattle.words.specs.BoolLaws.{by-test, clash, impossible}
 use Rattle.message.specs.Message.{Message, marked, head_bytes, body_bytes, mac_of, mac_fits}
 use Rattle.message.specs.Reading.{MessageRead, read_of}
 use Rattle.message.specs.Writing.{message_bytes, kind_named, rising, writable}
@@ -52,7 +52,7 @@ bytes_tell m m' t t' = (
   λ e. ap message_bytes e,
   λ e. let one = write_read m t in
       let other = write_read m' t' in
-      let both : MessageRead.read m ≡ MessageRead.read m' = sym one ∙ ap read_of e ∙ other in
+      let both : ◌≡◌ {A = MessageRead} (Ok m) (Ok m') = sym one ∙ ap read_of e ∙ other in
       cc,
 )
 
@@ -77,6 +77,6 @@ write_refuses m out =
     by-test (writable m)
     (λ t. by-test (leb (length (message_bytes m)) (length out))
     (λ room. rw (written-whole m out t (leb-true (length (message_bytes m)) (length out) room))
-    (λ e. absurd (omega arith), λ u. absurd (nothing_against m out t room u)))
+    (λ e. impossible (cc), λ u. absurd (nothing_against m out t room u)))
     (λ short. let l = leb-false (length (message_bytes m)) (length out) short in rw (written-short m out t l) (λ e. Unwritable.too_short l, λ u. refl)))
     (λ f. rw (written_not m out f) (λ e. unwritable m out f, λ u. refl))

@@ -1,13 +1,12 @@
 -- What a message that can be written holds, how long its bytes are, and the three ways of writing it.
-use Rattle.std.specs.Prelude.{ℕ, ◌+◌, ◌^◌, ◌≤◌, ◌<◌, ◌≡◌, refl, Bool, true, false, ◌&&◌, cond, List, [], ◌∷◌, ◌++◌, ltb, length, drop}
+use Rattle.std.specs.Prelude.{ℕ, ◌+◌, ◌^◌, ◌≤◌, ◌<◌, ◌≡◌, refl, Bool, true, false, ◌&&◌, cond, List, [], ◌∷◌, ◌++◌, ltb, length, drop, Ok}
 use Rattle.std.proofs.Common.{◌∙◌, arith, length-append}
 use borrow.Author.Tests.{ltb-true, lt-ltb, le-leb, lt-leb}
-use Rattle.words.specs.Codes.{done, bad_argument}
 use Rattle.words.specs.Output.{stored}
 use Rattle.words.specs.BoolLaws.{and_left, and_right, and_both}
 use Rattle.message.specs.Message.{Item, Message, marked, head_length, body_bytes, head_bytes, mac_of}
 use Rattle.message.specs.Promise.{ItemsHold, Fits}
-use Rattle.message.specs.Writing.{message_bytes, kind_named, rising, items_hold, holds, writable, wrote, write_answer}
+use Rattle.message.specs.Writing.{message_bytes, kind_named, rising, items_hold, holds, writable, wrote, not_written, write_answer}
 use Rattle.message.proofs.ReadLaws.{length-head, length_mac}
 
 -- ---- the tests say what `Fits` says
@@ -84,14 +83,14 @@ length-message m = length-append (head_bytes m) _ ∙ rw (length-head m, length-
 
 module _ (m : Message) (out : List ℕ) where
   pub written-whole : writable m ≡ true → length (message_bytes m) ≤ length out
-      → write_answer m out ≡ wrote (record { code = done; len = length (message_bytes m) }) (message_bytes m ++ drop (length (message_bytes m)) out)
+      → write_answer m out ≡ wrote (Ok (length (message_bytes m))) (message_bytes m ++ drop (length (message_bytes m)) out)
   unfolding write_answer stored
   written-whole t l = rw (t, le-leb (length (message_bytes m)) (length out) l)
 
-  pub written-short : writable m ≡ true → length out < length (message_bytes m) → write_answer m out ≡ wrote (record { code = bad_argument; len = 0 }) out
+  pub written-short : writable m ≡ true → length out < length (message_bytes m) → write_answer m out ≡ wrote not_written out
   unfolding write_answer stored
   written-short t l = rw (t, lt-leb (length (message_bytes m)) (length out) l)
 
-  pub written_not : writable m ≡ false → write_answer m out ≡ wrote (record { code = bad_argument; len = 0 }) out
+  pub written_not : writable m ≡ false → write_answer m out ≡ wrote not_written out
   unfolding write_answer stored
   written_not f = rw f

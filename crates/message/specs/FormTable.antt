@@ -1,18 +1,16 @@
 -- Messages written and read (document 02, Ask 3), computed: what the theorems leave open is a number that definition and code could share, the end of a range,
 -- a code, the order of the refusals.
-use Rattle.std.specs.Prelude.{ℕ, zero, suc, ◌+◌, ◌≡◌, refl, List, [], ◌∷◌, ◌++◌, map, replicate}
-use Rattle.std.proofs.Math.Option.{Option, none, some}
+use Rattle.std.specs.Prelude.{ℕ, zero, suc, ◌+◌, ◌≡◌, refl, List, [], ◌∷◌, ◌++◌, map, replicate, Option, Some, None, Result, Ok, Err}
 use Rattle.words.specs.Lists.{same_bytes}
 use Rattle.words.specs.Bytes.{be_at, be_bytes}
 use Rattle.words.specs.Words.{◌⋘◌}
 use Rattle.words.specs.Output.{stored}
 use Rattle.sm3.specs.Sm3.{sm3_of, padded, zeros_after, words_at, next_word, expand, round, round_with, rounds, ff, gg, compressed, iterated, digest}
 use Rattle.token.specs.declared.answers.Refusal.{Refusal}
-use Rattle.message.specs.declared.reading.ItemRead.{ItemRead}
-use Rattle.message.specs.declared.writing.Written.{Written}
+use Rattle.message.specs.declared.items.ItemPlace.{ItemPlace}
 use Rattle.message.specs.Message.{Item, Message, item_bytes, items_bytes, body_bytes, head_bytes, mac_of, items_at, items_end, all_plain, lengths_add_up, attributes_plain, message_at, frame_fits, frame_of, mac_fits}
-use Rattle.message.specs.Reading.{MessageRead, read_of, place_of, item_of}
-use Rattle.message.specs.Writing.{message_bytes, holds, writable, write_answer, items_as_lent, together, items_lent}
+use Rattle.message.specs.Reading.{MessageRead, read_of, places, item_of}
+use Rattle.message.specs.Writing.{message_bytes, holds, writable, Written, not_written, write_answer, items_as_lent, together, items_lent}
 
 -- ---- what is computed; opened, each opens all that it computes with
 
@@ -32,8 +30,8 @@ unfolding read_of frame_of frame_fits lengths_add_up attributes_plain message_at
     sm3_of padded zeros_after words_at next_word expand round round_with rounds ff gg compressed iterated digest be_bytes ◌⋘◌
 read_from s = read_of s
 
-unfoldable pub found_in : List ℕ → ℕ → ItemRead
-unfolding read_of place_of frame_of frame_fits lengths_add_up attributes_plain message_at items_at items_end all_plain mac_fits be_at same_bytes
+unfoldable pub found_in : List ℕ → ℕ → Result (Option ItemPlace) Refusal
+unfolding read_of places frame_of frame_fits lengths_add_up attributes_plain message_at items_at items_end all_plain mac_fits be_at same_bytes
     sm3_of padded zeros_after words_at next_word expand round round_with rounds ff gg compressed iterated digest be_bytes ◌⋘◌
 found_in s i = item_of s i
 
@@ -111,10 +109,10 @@ pub record Writing : Type 0 where
 
 -- with so much room it is written, and has so many bytes
 abbrev pub done : Message → ℕ → ℕ → Writing
-done m room n = record { message = m; room = room; expected = record { code = 0x0000; len = n } }
+done m room n = record { message = m; room = room; expected = Ok n }
 
 abbrev pub refused : Message → ℕ → Writing
-refused m room = record { message = m; room = room; expected = record { code = 0x9005; len = 0 } }
+refused m room = record { message = m; room = room; expected = not_written }
 
 abbrev pub writings : List Writing
 writings =
@@ -165,10 +163,10 @@ pub record Reading : Type 0 where
   pub expected : MessageRead
 
 abbrev pub says : List ℕ → Message → Reading
-says bytes m = record { bytes = bytes; expected = MessageRead.read m }
+says bytes m = record { bytes = bytes; expected = Ok m }
 
 abbrev pub is_refused : List ℕ → Refusal → Reading
-is_refused bytes refusal = record { bytes = bytes; expected = MessageRead.refused refusal }
+is_refused bytes refusal = record { bytes = bytes; expected = Err refusal }
 
 abbrev pub readings : List Reading
 readings =
@@ -192,24 +190,24 @@ read-table-holds = refl
 
 -- ---- items by their index
 
-abbrev pub found : ℕ → ℕ → ℕ → ItemRead
-found id start end = ItemRead.Is (record { identifier = id; start = start; end = end })
+abbrev pub found : ℕ → ℕ → ℕ → Result (Option ItemPlace) Refusal
+found id start end = Ok (Some (record { identifier = id; start = start; end = end }))
 
-pub item-table-holds : map (λ (i : ℕ). found_in sealed_reply i) (0 ∷ 1 ∷ 2 ∷ 3 ∷ []) ≡ found 0x0102 34 42 ∷ found 0x0104 46 47 ∷ found 0x0105 51 52 ∷ ItemRead.Nothing ∷ []
+pub item-table-holds : map (λ (i : ℕ). found_in sealed_reply i) (0 ∷ 1 ∷ 2 ∷ 3 ∷ []) ≡ found 0x0102 34 42 ∷ found 0x0104 46 47 ∷ found 0x0105 51 52 ∷ Ok None ∷ []
 unfolding found_in
 item-table-holds = refl
 
-pub item-refused-holds : found_in damaged_reply 0 ≡ ItemRead.Refused Refusal.BadMac
+pub item-refused-holds : found_in damaged_reply 0 ≡ Err Refusal.BadMac
 unfolding found_in
 item-refused-holds = refl
 
 -- ---- items as they are lent
 
 pub lent-table-holds
-    : (lent_as [] [] [] ≡ some [])
-    × ((lent_as (2 ∷ 3 ∷ []) (1 ∷ 2 ∷ []) (7 ∷ 8 ∷ 9 ∷ []) ≡ some (item 2 (7 ∷ []) ∷ item 3 (8 ∷ 9 ∷ []) ∷ []))
-    × ((lent_as (2 ∷ 3 ∷ []) (1 ∷ []) (7 ∷ []) ≡ none)
-    × ((lent_as (2 ∷ []) (1 ∷ 0 ∷ []) (7 ∷ []) ≡ none)
-    × ((lent_as (2 ∷ []) (1 ∷ []) [] ≡ none) × (lent_as (2 ∷ []) (1 ∷ []) (7 ∷ 8 ∷ []) ≡ none)))))
+    : (lent_as [] [] [] ≡ Some [])
+    × ((lent_as (2 ∷ 3 ∷ []) (1 ∷ 2 ∷ []) (7 ∷ 8 ∷ 9 ∷ []) ≡ Some (item 2 (7 ∷ []) ∷ item 3 (8 ∷ 9 ∷ []) ∷ []))
+    × ((lent_as (2 ∷ 3 ∷ []) (1 ∷ []) (7 ∷ []) ≡ None)
+    × ((lent_as (2 ∷ []) (1 ∷ 0 ∷ []) (7 ∷ []) ≡ None)
+    × ((lent_as (2 ∷ []) (1 ∷ []) [] ≡ None) × (lent_as (2 ∷ []) (1 ∷ []) (7 ∷ 8 ∷ []) ≡ None)))))
 unfolding lent_as
 lent-table-holds = (refl, (refl, (refl, (refl, (refl, refl)))))

@@ -1,7 +1,6 @@
 -- The tests on the frame of a message, as equations between numbers.
-use Rattle.std.specs.Prelude.{ℕ, ◌+◌, true, List, eqb, length, get_or}
+use Rattle.std.specs.Prelude.{ℕ, ◌+◌, true, List, eqb, length, get_or, Option, Some, None}
 use Rattle.std.proofs.Math.Path.{◌≡◌}
-use Rattle.std.proofs.Math.Option.{Option, none, some}
 use borrow.Author.Tests.{eqb-true, eq-eqb}
 use Rattle.words.specs.Bytes.{be_at}
 use Rattle.words.specs.BoolLaws.{and_left, and_right, by-test, impossible}
@@ -44,9 +43,9 @@ module _ (s : List ℕ) where
         eq-eqb (items_end (count_in s) s (items_start s)) (length s) f.end,
       )
 
-  pub some_facts : (m : Message) → frame_of s ≡ some m → Facts s × (message_at s ≡ m)
+  pub some_facts : (m : Message) → frame_of s ≡ Some m → Facts s × (message_at s ≡ m)
   unfolding frame_of
   some_facts m e =
       by-test (frame_fits s)
-      (λ t. let same : some (message_at s) ≡ some m = rw t at e in (fitting_facts t, cc))
-      (λ f. let other : ◌≡◌ {A = Option Message} none (some m) = rw f at e in impossible (cc))
+      (λ t. let same : Some (message_at s) ≡ Some m = rw t at e in (fitting_facts t, cc))
+      (λ f. let other : ◌≡◌ {A = Option Message} None (Some m) = rw f at e in impossible (cc))

@@ -1,5 +1,5 @@
--- What each branch of reading a message's head returns.
-use Rattle.std.specs.Prelude.{ℕ, ◌+◌, ◌≤◌, ◌<◌, ◌≡◌, refl, Bool, false, not, cond, ◌&&◌, ◌||◌, List, leb, length, get_or}
+-- What each branch of the test of a message's frame returns.
+use Rattle.std.specs.Prelude.{ℕ, ◌+◌, ◌≤◌, ◌<◌, ◌≡◌, Bool, false, not, cond, ◌&&◌, List, leb, length, get_or}
 use Rattle.std.proofs.Math.Path.{sym}
 use Rattle.std.proofs.Common.{◌∙◌, arith}
 use Rattle.std.proofs.Math.Bool.{true}
@@ -8,27 +8,10 @@ use Rattle.std.proofs.Math.Dec.{eqb}
 use Rattle.words.specs.Bytes.{AreBytes, be_at}
 use Rattle.words.specs.BytesLaws.{be_at-lt}
 use Rattle.words.specs.BoolLaws.{by-test, and_left, and_right, clash}
-use Rattle.message.specs.declared.frame.Framed.{Framed}
-use Rattle.message.specs.Message.{marked, head_length, items_end, kind_in, body_start, count_in, items_start, type_named, frame_fits}
-use Rattle.message.specs.Walking.{longest, framed_as, items_fill}
-use Rattle.message.specs.WalkLaws.{end-behind}
+use Rattle.message.specs.Message.{marked, head_length, items_end, kind_in, body_start, count_in, items_start, type_named, frame_fits, message_at}
+use Rattle.message.specs.Walking.{longest, items_fill}
+use Rattle.message.specs.WalkLaws.{end-behind, length-items_at}
 use Rattle.message.specs.FrameFacts.{Facts, fitting_facts, facts_fit}
-
--- ---- tests in a row
-
-pub one-test : (a : Bool) → a ≡ a || false
-one-test true = refl
-one-test false = refl
-
-pub two_tests : (a b : Bool) → a || b ≡ a || (b || false)
-two_tests true b = refl
-two_tests false b = one-test b
-
-pub four_tests : (a b c d : Bool) → ((a || b) || c) || d ≡ a || (b || (c || (d || false)))
-four_tests true b c d = refl
-four_tests false true c d = refl
-four_tests false false true d = refl
-four_tests false false false d = one-test d
 
 -- ---- bytes that are a message
 
@@ -61,21 +44,30 @@ module _ (s : List ℕ) (t : frame_fits s ≡ true) where
   unfolding items_fill
   items-filled = rw (eq-eqb (items_end (count_in s) s (items_start s)) (length s) items-end) (fitting_facts s t).plain
 
+-- ---- what the body's start and the number of items are
+
+module _ (s : List ℕ) (t : frame_fits s ≡ true) where
+  pub body-room : body_start s + 5 ≤ length s
+  body-room = (fits-long s t).0
+
+  pub count-here : count_in s ≡ length (message_at s).items
+  unfolding message_at
+  count-here = sym (length-items_at (count_in s) s (items_start s))
+
 -- ---- what is returned
 
 module _ (s : List ℕ) where
-  pub frame_unfit : (frame_fits s ≡ true → ⊥) → Framed.Malformed ≡ framed_as s
-  unfolding framed_as
-  frame_unfit d = by-test (frame_fits s) (λ t. absurd (d t)) (λ f. rw f)
+  frame_unfit : (frame_fits s ≡ true → ⊥) → false ≡ frame_fits s
+  frame_unfit d = by-test (frame_fits s) (λ t. absurd (d t)) (λ f. sym f)
 
-  pub frame_short : length s < 21 → Framed.Malformed ≡ framed_as s
+  pub frame_short : length s < 21 → false ≡ frame_fits s
   frame_short l = frame_unfit (λ t. let h = fits-long s t in omega arith)
 
   module _ {body size : ℕ} {named : Bool} (bodied : body ≡ body_start s) (sized : size ≡ be_at 2 s 19) (names : named ≡ type_named s) where
     abbrev head_tests : Bool
     head_tests = (((named && eqb (get_or s 2 0) 1) && eqb (get_or s 0 0) body) && eqb (body + size) (length s)) && leb 5 size
 
-    pub head-unfit : not head_tests ≡ true → Framed.Malformed ≡ framed_as s
+    pub head-unfit : not head_tests ≡ true → false ≡ frame_fits s
     head-unfit n =
         frame_unfit
         (λ t. let f = fitting_facts s t in
@@ -116,16 +108,9 @@ module _ (s : List ℕ) where
             plain = and_right (eqb (items_end (count_in s) s (items_start s)) (length s)) _ fill;
           }
 
-      module _ {count items : ℕ} {fill : Bool} (counted : count ≡ get_or s (body + 4) 0) (first : items ≡ body + 5) (filled : fill ≡ items_fill count s items) where
-        pub items-unfit : not fill ≡ true → Framed.Malformed ≡ framed_as s
-        items-unfit n =
-            frame_unfit
-            (λ f. let e : items_fill count s items ≡ true = rw (counted, first, bodied) (items-filled s f) in clash e (sym filled ∙ not-true fill n))
-
-        pub frame_whole : {service options : ℕ} → not fill ≡ false → service ≡ be_at 2 s body → options ≡ be_at 2 s (body + 2)
-            → Framed.Whole (record { kind = get_or s 1 0; service = service; options = options; count = count; items = items }) ≡ framed_as s
-        unfolding framed_as
-        frame_whole n e o =
-            let all : items_fill (count_in s) s (items_start s) ≡ true = rw (counted, first, bodied) at (sym filled ∙ not-false fill n) in
-            let fits : frame_fits s ≡ true = facts_fit s (filled_facts all) in
-            rw (fits, e, o, counted, first, bodied)
+      pub items-fit : {fill : Bool} → fill ≡ items_fill (get_or s (body + 4) 0) s (body + 5) → fill ≡ frame_fits s
+      items-fit {fill} filled =
+          let here : fill ≡ items_fill (count_in s) s (items_start s) = rw bodied at filled in
+          by-test fill
+          (λ f. f ∙ sym (facts_fit s (filled_facts (sym here ∙ f))))
+          (λ f. f ∙ frame_unfit (λ t. clash (here ∙ items-filled s t) f))

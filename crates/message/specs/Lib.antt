@@ -10,5 +10,4 @@ pub mod Lending
 pub mod FrameFacts
 pub mod WalkLaws
 pub mod FrameLaws
-pub mod HeadLaws
 pub mod MacLaws

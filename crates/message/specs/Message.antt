@@ -1,7 +1,6 @@
 -- Messages of GM/T 0021-2012, Annex D, as document 02, Ask 1, reads them: what a message says, its bytes, and the message that bytes are. The bytes and
 -- the reading are defined apart; `ReadExactly` of `Promise` joins them.
-use Rattle.std.specs.Prelude.{ℕ, zero, suc, ◌+◌, Bool, true, ◌&&◌, ◌||◌, not, cond, List, [], ◌∷◌, ◌++◌, eqb, leb, length, get_or, take, drop}
-use Rattle.std.proofs.Math.Option.{Option, none, some}
+use Rattle.std.specs.Prelude.{ℕ, zero, suc, ◌+◌, Bool, true, ◌&&◌, ◌||◌, not, cond, List, [], ◌∷◌, ◌++◌, eqb, leb, length, get_or, take, drop, Option, Some, None}
 use Rattle.words.specs.Lists.{one_of, same_bytes}
 use Rattle.words.specs.Bytes.{be_at, be_bytes}
 use Rattle.sm3.specs.Sm3.{sm3_of}
@@ -134,7 +133,7 @@ frame_fits s = type_named s && (version_named s && (lengths_add_up s && attribut
 
 -- the message that the bytes are, whatever their MAC
 unfoldable pub frame_of : List ℕ → Option Message
-frame_of s = cond (frame_fits s) (some (message_at s)) none
+frame_of s = cond (frame_fits s) (Some (message_at s)) None
 
 -- header without MAC, then body
 abbrev pub without_mac : List ℕ → List ℕ

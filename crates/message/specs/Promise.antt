@@ -1,15 +1,14 @@
 -- What is promised of messages (document 02, Asks 1 and 3): which bytes are a message, when its MAC fits, and that reading and writing undo each other. This
 -- page has the statements; `ReadLaws`, `ReadCodesLaws`, `ItemsGivenLaws` and `RoundTripLaws` have the proofs.
-use Rattle.std.specs.Prelude.{ℕ, zero, suc, ◌-◌, ◌^◌, ◌<◌, ◌≡◌, true, false, List, [], ◌∷◌, ◌++◌, map, length, take, drop}
-use Rattle.std.proofs.Math.Option.{Option, none, some}
+use Rattle.std.specs.Prelude.{ℕ, ◌-◌, ◌^◌, ◌<◌, ◌≡◌, true, false, List, [], ◌∷◌, ◌++◌, map, length, take, drop, slice_get, Option, Some, None, Result, Ok, Err}
 use Rattle.words.specs.Lists.{one_of}
 use Rattle.words.specs.Exactly.{Exactly}
 use Rattle.words.specs.Bytes.{AreBytes}
 use Rattle.token.specs.declared.answers.Refusal.{Refusal}
-use Rattle.message.specs.declared.reading.ItemRead.{ItemRead}
+use Rattle.message.specs.declared.items.ItemPlace.{ItemPlace}
 use Rattle.message.specs.Message.{Item, Message, kinds, marked, body_bytes, mac_of, bytes_with, type_named, version_named, lengths_add_up, attributes_plain, frame_of, mac_fits}
-use Rattle.message.specs.Reading.{MessageRead, read_of, item_of}
-use Rattle.message.specs.Writing.{message_bytes, kind_named, rising, holds, writable, write_answer, items_lent}
+use Rattle.message.specs.Reading.{read_of, item_of}
+use Rattle.message.specs.Writing.{message_bytes, kind_named, rising, holds, writable, write_answer, not_written, items_lent}
 
 -- ---- the bytes that are a message
 
@@ -31,12 +30,12 @@ pub record Fits (mac : List ℕ) (m : Message) : Type 0 where
 
 -- bytes are read as m exactly if they are m's bytes with some MAC: "lengths that add up" needs no reader to be believed
 abbrev pub ReadExactly : Type 0
-ReadExactly = (s : List ℕ) (m : Message) → AreBytes s → Exactly (frame_of s ≡ some m) ((mac : List ℕ) × (Fits mac m × (s ≡ bytes_with mac m)))
+ReadExactly = (s : List ℕ) (m : Message) → AreBytes s → Exactly (frame_of s ≡ Some m) ((mac : List ℕ) × (Fits mac m × (s ≡ bytes_with mac m)))
 
 -- a marked MAC fits exactly if it is that of the message's bytes
 abbrev pub MacExactly : Type 0
 MacExactly =
-    (s : List ℕ) (m : Message) → AreBytes s → frame_of s ≡ some m → marked m.kind ≡ true → Exactly (mac_fits s ≡ true) (take 4 (drop 21 s) ≡ mac_of m)
+    (s : List ℕ) (m : Message) → AreBytes s → frame_of s ≡ Some m → marked m.kind ≡ true → Exactly (mac_fits s ≡ true) (take 4 (drop 21 s) ≡ mac_of m)
 
 -- ---- a message is read, request or reply
 
@@ -50,34 +49,29 @@ pub data Unreadable (s : List ℕ) : Type 0 where
 abbrev pub ReadCodes : Type 0
 ReadCodes =
     (s : List ℕ)
-    → Exactly (read_of s ≡ MessageRead.refused Refusal.BadMessage) (Unreadable s)
-    × (Exactly (read_of s ≡ MessageRead.refused Refusal.BadMac) ((Unreadable s → ⊥) × (mac_fits s ≡ false))
-    × ((m : Message) → Exactly (read_of s ≡ MessageRead.read m) ((frame_of s ≡ some m) × (mac_fits s ≡ true))))
-
-abbrev pub item_numbered : ℕ → List Item → Option Item
-item_numbered i [] = none
-item_numbered zero (item ∷ items) = some item
-item_numbered (suc i) (item ∷ items) = item_numbered i items
+    → Exactly (read_of s ≡ Err Refusal.BadMessage) (Unreadable s)
+    × (Exactly (read_of s ≡ Err Refusal.BadMac) ((Unreadable s → ⊥) × (mac_fits s ≡ false))
+    × ((m : Message) → Exactly (read_of s ≡ Ok m) ((frame_of s ≡ Some m) × (mac_fits s ≡ true))))
 
 -- the item that stands where one is found
-abbrev pub item_there : List ℕ → ItemRead → Option Item
-item_there s (ItemRead.Is p) = some (record { identifier = p.identifier; content = take (p.end - p.start) (drop p.start s) })
-item_there s ItemRead.Nothing = none
-item_there s (ItemRead.Refused refusal) = none
+abbrev pub item_there : List ℕ → Result (Option ItemPlace) Refusal → Option Item
+item_there s (Ok (Some p)) = Some (record { identifier = p.identifier; content = take (p.end - p.start) (drop p.start s) })
+item_there s (Ok None) = None
+item_there s (Err refusal) = None
 
 -- each item of a message that is read is found by its index, and no other
 abbrev pub ItemExactly : Type 0
-ItemExactly = (s : List ℕ) (m : Message) (i : ℕ) → read_of s ≡ MessageRead.read m → item_there s (item_of s i) ≡ item_numbered i m.items
+ItemExactly = (s : List ℕ) (m : Message) (i : ℕ) → read_of s ≡ Ok m → item_there s (item_of s i) ≡ slice_get m.items i
 
 -- ---- reading and writing undo each other
 
 -- what is written comes back equal
 abbrev pub WriteRead : Type 0
-WriteRead = (m : Message) → writable m ≡ true → read_of (message_bytes m) ≡ MessageRead.read m
+WriteRead = (m : Message) → writable m ≡ true → read_of (message_bytes m) ≡ Ok m
 
 -- and reading loses nothing, whatever the items' order
 abbrev pub ReadWrite : Type 0
-ReadWrite = (s : List ℕ) (m : Message) → AreBytes s → read_of s ≡ MessageRead.read m → message_bytes m ≡ s
+ReadWrite = (s : List ℕ) (m : Message) → AreBytes s → read_of s ≡ Ok m → message_bytes m ≡ s
 
 -- two messages are equal exactly when their bytes are
 abbrev pub BytesTell : Type 0
@@ -94,7 +88,7 @@ pub data Unwritable (m : Message) (out : List ℕ) : Type 0 where
 
 -- these and nothing else
 abbrev pub WriteRefuses : Type 0
-WriteRefuses = (m : Message) (out : List ℕ) → Exactly ((write_answer m out).written.code ≡ 0x9005) (Unwritable m out)
+WriteRefuses = (m : Message) (out : List ℕ) → Exactly ((write_answer m out).written ≡ not_written) (Unwritable m out)
 
 -- ---- how items are lent
 
@@ -106,5 +100,5 @@ contents_of (i ∷ items) = i.content ++ contents_of items
 abbrev pub LentExactly : Type 0
 LentExactly =
     (identifiers lengths contents : List ℕ) (items : List Item)
-    → Exactly (items_lent identifiers lengths contents ≡ some items)
+    → Exactly (items_lent identifiers lengths contents ≡ Some items)
     ((identifiers ≡ map (λ (i : Item). i.identifier) items) × ((lengths ≡ map (λ (i : Item). length i.content) items) × (contents ≡ contents_of items)))

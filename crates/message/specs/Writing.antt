@@ -1,11 +1,10 @@
 -- Writing a message, request or reply (document 02, Ask 3): what can be written, as which bytes, and what the writer leaves.
-use Rattle.std.specs.Prelude.{ℕ, ◌+◌, ◌^◌, Bool, true, ◌&&◌, cond, List, [], ◌∷◌, eqb, leb, ltb, length, take, drop}
-use Rattle.std.proofs.Math.Option.{Option, none, some}
+use Rattle.std.specs.Prelude.{ℕ, ◌+◌, ◌^◌, Bool, true, ◌&&◌, cond, List, [], ◌∷◌, eqb, leb, ltb, length, take, drop, Option, Some, None, Result, Ok, Err}
 use Rattle.words.specs.Lists.{one_of}
 use Rattle.words.specs.Codes.{done, bad_argument}
 use Rattle.words.specs.Output.{Left, stored}
 use Rattle.message.specs.declared.reading.Heading.{Heading}
-use Rattle.message.specs.declared.writing.Written.{Written}
+use Rattle.words.specs.declared.codes.BadArgument.{BadArgument}
 use Rattle.message.specs.Message.{Item, Message, kinds, body_bytes, mac_of, bytes_with}
 
 -- the bytes of a message, with its own MAC where one is marked
@@ -45,7 +44,14 @@ writable m = kind_named m && (rising m && holds m)
 
 -- ---- what the writer leaves
 
--- the code and the message's length, and the output after the call
+-- the message's length, or 9005 where nothing is written
+abbrev pub Written : Type 0
+Written = Result ℕ BadArgument
+
+abbrev pub not_written : Written
+not_written = Err (record {})
+
+-- that, and the output after the call
 pub record WriteLeft : Type 0 where
   pub written : Written
   pub out : List ℕ
@@ -53,9 +59,8 @@ pub record WriteLeft : Type 0 where
 abbrev pub wrote : Written → List ℕ → WriteLeft
 wrote written out = record { written = written; out = out }
 
--- no length where nothing is written
 abbrev pub with_length : ℕ → Left → WriteLeft
-with_length n l = wrote (record { code = l.code; len = cond (eqb l.code done) n 0 }) l.out
+with_length n l = wrote (cond (eqb l.code done) (Ok n) not_written) l.out
 
 -- the message goes to the front of the output, and the rest stays
 unfoldable pub write_answer : Message → List ℕ → WriteLeft
@@ -79,7 +84,7 @@ together identifiers lengths contents = eqb (length identifiers) (length lengths
 
 -- slices that do not fit together are no items at all
 unfoldable pub items_lent : List ℕ → List ℕ → List ℕ → Option (List Item)
-items_lent identifiers lengths contents = cond (together identifiers lengths contents) (some (items_as_lent identifiers lengths contents)) none
+items_lent identifiers lengths contents = cond (together identifiers lengths contents) (Some (items_as_lent identifiers lengths contents)) None
 
 abbrev pub message_of : Heading → List Item → Message
 message_of h items =
@@ -87,5 +92,5 @@ message_of h items =
 
 -- where there are no items, there is no message: a bad argument
 abbrev pub write_lent : Heading → Option (List Item) → List ℕ → WriteLeft
-write_lent h none out = wrote (record { code = bad_argument; len = 0 }) out
-write_lent h (some items) out = write_answer (message_of h items) out
+write_lent h None out = wrote not_written out
+write_lent h (Some items) out = write_answer (message_of h items) out

@@ -1,9 +1,11 @@
 // Header and body of a message, by their places (GM/T 0021-2012, Tables D.1, D.2 and D.4).
-ghost use Rattle.std.specs.Prelude.{◌≡◌, ◌≤◌, length};
+ghost use Rattle.std.specs.Prelude.{◌≡◌, ◌+◌, ◌≤◌, true, length};
 ghost use Rattle.words.specs.Lists.{one_of};
-ghost use Rattle.message.specs.Message.{kinds, marked, is_reply, head_length};
+ghost use Rattle.message.specs.Message.{kinds, marked, is_reply, head_length, item_end, body_start, message_at, frame_fits, mac_fits};
 ghost use Rattle.message.specs.Walking.{longest, items_fill, framed_as};
 
+use crate::mac::mac_fits;
+use std::marker::Model;
 use words::bytes::be_at;
 
 pub(crate) const KIND: usize = 1;
@@ -23,23 +25,10 @@ pub(crate) const MARKED_HEAD: usize = 25;
 // A body without items: service, options and item count.
 pub(crate) const EMPTY_BODY: usize = 5;
 
+// Attribute, identifier and length of an item.
+pub(crate) const ITEM_HEAD: usize = 4;
+
 const FIRST_MARKED: u8 = 0x80;
-
-// What is read of a message; `items` is the place of the first one.
-#[derive(Clone, Copy)]
-pub struct Head {
-    pub kind: u8,
-    pub service: u64,
-    pub options: u64,
-    pub count: usize,
-    pub items: usize,
-}
-
-#[derive(Clone, Copy)]
-pub enum Framed {
-    Whole(Head),
-    Malformed,
-}
 
 pub(crate) fn is_marked(kind: u8) -> bool
     ensures { result ≡ marked kind }
@@ -59,13 +48,15 @@ pub(crate) fn head_length(kind: u8) -> usize
 pub(crate) fn is_named(kind: u32) -> bool
     ensures { result ≡ one_of kind kinds }
 {
-    (kind == 0x00) | (kind == 0x01) | (kind == 0x80) | (kind == 0x81)
+    matches!(kind, 0x00 | 0x01 | 0x80 | 0x81)
 }
 
-pub fn is_reply(kind: u8) -> bool
-    ensures { result ≡ is_reply kind }
+// Where the item that starts at a place ends.
+pub(crate) fn item_end(message: &[u8], at: usize) -> usize
+    requires { at + 4 ≤ length message.now }
+    ensures { result ≡ item_end message.now at }
 {
-    (kind == 0x01) | (kind == 0x81)
+    at + ITEM_HEAD + message[at + 3] as usize
 }
 
 // Whether so many items from a place on end where the message ends, each with attribute 00.
@@ -75,26 +66,25 @@ fn items_fill(message: &[u8], count: usize, start: usize) -> bool
     ensures { result ≡ items_fill count message.now start }
 {
     let mut at = start;
-    let mut left = count;
-    while 0 < left {
-        if message.len() < at + 4 {
+    for _ in 0..count {
+        if message.len() < at + ITEM_HEAD {
             return false;
         }
         if message[at] != 0x00 {
             return false;
         }
-        at = at + 4 + message[at + 3] as usize;
-        left -= 1;
+        at = item_end(message, at);
     }
     at == message.len()
 }
 
-// The message's head, if type and version are named, its lengths add up and its attributes are 00.
-pub fn frame_of(message: &[u8]) -> Framed
-    ensures { result ≡ framed_as message.now }
+// Whether type and version are named, the lengths add up and the attributes are 00.
+fn frame_fits(message: &[u8]) -> bool
+    ensures value { result ≡ frame_fits message.now }
+    ensures short { result ≡ true → length message.now ≤ longest }
 {
     if message.len() < HEAD {
-        return Framed::Malformed;
+        return false;
     }
     let kind = message[KIND];
     let body = head_length(kind);
@@ -105,18 +95,58 @@ pub fn frame_of(message: &[u8]) -> Framed
         & (body + size == message.len())
         & (EMPTY_BODY <= size))
     {
-        return Framed::Malformed;
+        return false;
     }
-    let count = message[body + 4] as usize;
-    let items = body + EMPTY_BODY;
-    if !items_fill(message, count, items) {
-        return Framed::Malformed;
+    items_fill(message, message[body + 4] as usize, body + EMPTY_BODY)
+}
+
+// The bytes of a message, whatever its MAC.
+#[derive(Drop)]
+pub struct Framed<'a> {
+    pub(crate) message: &'a [u8],
+}
+
+impl<'a> Model for Framed<'a> {
+    ghost use Rattle.std.specs.Prelude.{ℕ, List};
+
+    ghost Value = { List ℕ };
+
+    ghost use Rattle.message.specs.Walking.{Whole};
+
+    ghost view = { λ framed. framed.message.now };
+
+    ghost invariant = { λ framed. Whole framed.message.now };
+}
+
+// The message that the bytes are.
+pub fn frame_of(message: &[u8]) -> Option<Framed<'_>>
+    ensures { result ≡ framed_as message.now }
+{
+    if !frame_fits(message) {
+        return None;
     }
-    Framed::Whole(Head {
-        kind,
-        service: be_at(message, body, 2),
-        options: be_at(message, body + 2, 2),
-        count,
-        items,
-    })
+    Some(Framed { message })
+}
+
+impl<'a> Framed<'a> {
+    pub fn is_reply(&self) -> bool
+        ensures { result ≡ is_reply (message_at self.now).kind }
+    {
+        matches!(self.message[KIND], 0x01 | 0x81)
+    }
+
+    // Whether a marked MAC is the last four bytes of the digest.
+    pub fn mac_fits(&self) -> bool
+        ensures { result ≡ mac_fits self.now }
+    {
+        mac_fits(self.message)
+    }
+
+    // Where the body starts.
+    pub(crate) fn body(&self) -> usize
+        ensures value { result ≡ body_start self.now }
+        ensures room { result + 5 ≤ length self.now }
+    {
+        head_length(self.message[KIND])
+    }
 }

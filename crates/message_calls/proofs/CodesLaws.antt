@@ -1,5 +1,5 @@
 -- The code tells why: what a message comes to with the reason for it, and that no call is answered with 9001, 9002 or 9004.
-use Rattle.std.specs.Prelude.{ℕ, ◌≡◌, Bool, false, ◌&&◌, ◌||◌, List, [], ◌∷◌, eqb}
+use Rattle.std.specs.Prelude.{ℕ, ◌≡◌, Bool, false, ◌&&◌, ◌||◌, List, [], ◌∷◌, eqb, Option, Some, None}
 use Rattle.std.proofs.Math.Path.{refl}
 use Rattle.std.proofs.Math.Bool.{true, not}
 use Rattle.std.proofs.Common.{arith}
@@ -17,7 +17,7 @@ use Rattle.desk.proofs.Demand1Laws.{demand_1}
 use Rattle.desk.specs.Reads.{Reads, read_after}
 use Rattle.message.specs.Message.{is_reply, kind_in, type_named, version_named, lengths_add_up, message_at, frame_fits, frame_of, mac_fits}
 use Rattle.message_calls.specs.declared.services.Service.{Service}
-use Rattle.message_calls.specs.Serving.{service_of, has_call, options_fit, items_fit, serial_fits, misfits, call_for, message_reads}
+use Rattle.message_calls.specs.Serving.{service_of, has_call, options_fit, items_fit, serial_fits, misfits, call_of, call_for, message_reads}
 use Rattle.message_calls.specs.Promise.{Malformed, MessageCodes, reader_codes, OthersAreCalls}
 
 -- ---- what a message comes to, and why
@@ -76,19 +76,9 @@ module _ (s : List ℕ) where
     well_formed_lem (Malformed.items_other has f) = clash (and_left _ _ (and_right (options_fit (message_at s)) _ (fits-here has))) f
 
   module _ (clock : ℕ) (ok : Malformed s → ⊥) (fits : mac_fits s ≡ true) where
-    call_why : (service : Service) → service_of (message_at s).service ≡ service → Why s (call_for service (message_at s) clock)
-    unfolding call_for
-    call_why Service.Login e = Why.called ok fits (rw e) _
-    call_why Service.ChallengeLogin e = Why.called ok fits (rw e) _
-    call_why Service.Activate e = Why.called ok fits (rw e) _
-    call_why Service.Lock e = Why.called ok fits (rw e) _
-    call_why Service.Unlock e = Why.called ok fits (rw e) _
-    call_why Service.Suspend e = Why.called ok fits (rw e) _
-    call_why Service.Resume e = Why.called ok fits (rw e) _
-    call_why Service.Sync e = Why.called ok fits (rw e) _
-    call_why Service.Void e = Why.called ok fits (rw e) _
-    call_why Service.Query e = Why.called ok fits (rw e) _
-    call_why Service.NoCall e = Why.no_call ok fits (rw e)
+    call_why : (service : Option Service) → service_of (message_at s).service ≡ service → Why s (call_for service (message_at s) clock)
+    call_why None e = Why.no_call ok fits (rw e)
+    call_why (Some service) e = Why.called ok fits (rw e) (call_of service (message_at s) clock)
 
   pub message_why : (clock : ℕ) → Why s (message_reads s clock)
   unfolding message_reads frame_of message_at

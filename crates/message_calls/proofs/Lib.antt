@@ -1,7 +1,6 @@
 -- Theorems and the lemmas behind them.
 pub mod CodesLaws
 pub mod FindingLaws
-pub mod ItemLaws
 pub mod OnlyLaws
 pub mod PromiseLaws
 pub mod ServingLaws

@@ -3,10 +3,12 @@ use Rattle.std.specs.Prelude.{ℕ, suc, ◌+◌, ◌≤◌, ◌≡◌, refl, Boo
 use Rattle.std.proofs.Common.{sym, arith, eq-eqb, eqb-true, lt-ltb, ltb-true}
 use Rattle.std.proofs.lemmas.Bool.{not-true}
 use Rattle.words.specs.Lists.{one_of}
-use Rattle.words.specs.BoolLaws.{by-test, and_left, and_right, or_left, or_right, and_true}
+use Rattle.words.specs.BoolLaws.{by-test, and_left, and_right, or_left, or_right}
 use Rattle.message.specs.Message.{Item}
-use Rattle.message_calls.specs.Serving.{serial_item, count_of, each_once, only_these}
-use Rattle.message_calls.specs.Finding.{has, has_only}
+use Rattle.std.specs.List.{list_all}
+use Rattle.message_calls.specs.declared.services.Service.{Service}
+use Rattle.message_calls.specs.Serving.{items_of, count_of, each_once, only_these}
+use Rattle.message_calls.specs.Finding.{has}
 
 -- no identifier stands twice
 abbrev pub distinct : List ℕ → Bool
@@ -19,8 +21,7 @@ counts_of [] items = 0
 counts_of (id ∷ ids) items = count_of id items + counts_of ids items
 
 abbrev all_have : List ℕ → List Item → Bool
-all_have [] items = true
-all_have (id ∷ ids) items = has id items && all_have ids items
+all_have ids items = list_all (λ id. has id items) ids
 
 -- ---- no more than there are items
 
@@ -88,25 +89,20 @@ only_have ids items d =
     rw t (same_test (all_have ids items) (each_once ids items) (each-there-once ids items (omega arith)) (once-there ids items)))
     (λ f. rw f)
 
--- ---- one, two and three items, as the code asks for them
+-- ---- the items of a call
 
-module _ (items : List Item) where
-  once : (a : Bool) → a && (a && a) ≡ a && true
-  once true = refl
-  once false = refl
+items_distinct : (service : Service) → distinct (items_of service) ≡ true
+items_distinct Service.Login = refl
+items_distinct Service.ChallengeLogin = refl
+items_distinct Service.Activate = refl
+items_distinct Service.Lock = refl
+items_distinct Service.Unlock = refl
+items_distinct Service.Suspend = refl
+items_distinct Service.Resume = refl
+items_distinct Service.Sync = refl
+items_distinct Service.Void = refl
+items_distinct Service.Query = refl
 
-  twice : (a b : Bool) → a && (b && b) ≡ a && (b && true)
-  twice a true = refl
-  twice a false = refl
-
-  pub only_one : has_only 1 serial_item serial_item items ≡ only_these (serial_item ∷ []) items
-  unfolding has_only
-  only_one = rw (once (has serial_item items)) (only_have (serial_item ∷ []) items refl)
-
-  pub only_two : (b : ℕ) → distinct (serial_item ∷ b ∷ []) ≡ true → has_only 2 b b items ≡ only_these (serial_item ∷ b ∷ []) items
-  unfolding has_only
-  only_two b d = rw (twice (has serial_item items) (has b items)) (only_have (serial_item ∷ b ∷ []) items d)
-
-  pub only_three : (b c : ℕ) → distinct (serial_item ∷ b ∷ c ∷ []) ≡ true → has_only 3 b c items ≡ only_these (serial_item ∷ b ∷ c ∷ []) items
-  unfolding has_only
-  only_three b c d = rw (← and_true (has c items)) (only_have (serial_item ∷ b ∷ c ∷ []) items d)
+-- as many items as the call has, and each of them there
+pub only_items : (service : Service) (items : List Item) → eqb (length items) (length (items_of service)) && list_all (λ id. has id items) (items_of service) ≡ only_these (items_of service) items
+only_items service items = only_have (items_of service) items (items_distinct service)

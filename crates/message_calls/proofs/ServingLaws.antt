@@ -1,92 +1,105 @@
 -- What each branch of serving a message returns.
-use Rattle.std.specs.Prelude.{ℕ, ◌<◌, ◌≡◌, Bool, ◌&&◌, ◌||◌, List, eqb}
-use Rattle.std.proofs.Math.Path.{sym}
-use Rattle.std.proofs.Common.{ap, ◌∙◌, arith}
-use Rattle.std.proofs.Math.Bool.{true, false, not}
+use Rattle.std.specs.Prelude.{ℕ, ◌<◌, ◌≡◌, Bool, true, false, not, ◌||◌, List, eqb, Option, Some, None}
+use Rattle.std.proofs.Common.{sym, ◌∙◌, arith}
 use borrow.Author.Tests.{eqb-true, not-true, not-false}
 use Rattle.words.specs.Lists.{one_of}
-use Rattle.words.specs.BoolLaws.{by-test, and_left, and_right, and_assoc, or_right, impossible}
+use Rattle.words.specs.BoolLaws.{by-test, and_left, and_right, or_right, impossible}
 use Rattle.window.specs.PasswordAt.{PasswordRule}
 use Rattle.token.specs.declared.answers.Refusal.{Refusal}
 use Rattle.desk.specs.Requests.{DeskCall}
 use Rattle.desk.specs.Desk.{Result, refused, desk_after}
 use Rattle.desk.specs.Reads.{Reads, read_after}
-use Rattle.message.specs.declared.frame.Head.{Head}
-use Rattle.message.specs.declared.frame.Framed.{Framed}
-use Rattle.message.specs.Message.{is_reply, frame_of, message_at, mac_fits}
-use Rattle.message.specs.Walking.{framed_as, HeadOf}
-use Rattle.message.specs.HeadLaws.{not_framed, head-service, head-options, head-kind}
+use Rattle.message.specs.Message.{Message, is_reply, frame_of, frame_fits, message_at, mac_fits}
+use Rattle.message.specs.Walking.{framed_as}
+use Rattle.message.proofs.ReadingLaws.{not_framed, is-framed}
 use Rattle.message_calls.specs.declared.services.Service.{Service}
-use Rattle.message_calls.specs.Serving.{service_of, options_of, has_call, items_of, only_these, options_fit, items_fit, serial_fits, misfits, call_for, message_reads}
+use Rattle.message_calls.specs.Serving.{service_of, options_of, misfits, serial_fits, serial_of, only_these, items_of, call_for, message_reads}
+use Rattle.message_calls.specs.Finding.{fits, serial_in}
 
-module _ (s : List ℕ) {x : Framed} (framed : x ≡ framed_as s) where
-  pub malformed-refused : (passwords : PasswordRule) (clock : ℕ) (t : List ℕ) → x ≡ Framed.Malformed → refused Refusal.BadMessage t ≡ read_after passwords (message_reads s clock) t
-  unfolding message_reads frame_of read_after
-  malformed-refused passwords clock t m = rw (not_framed s framed m)
+-- ---- what a call needs
 
-module _ (s : List ℕ) (head : Head) (h : HeadOf s head) where
-  module _ {service : Service} (is : service ≡ service_of head.service) where
-    named-service : service ≡ service_of (message_at s).service
-    named-service = is ∙ ap service_of (head-service s head h)
+module _ (m : Message) where
+  pub misfit-none : service_of m.service ≡ None → false ≡ misfits m
+  unfolding misfits
+  misfit-none e = rw e
 
-    -- ---- what a call needs
+  pub misfit-some : {service : Service} → service_of m.service ≡ Some service → not (fits service m) ≡ misfits m
+  unfolding misfits
+  misfit-some e = rw e
 
-    pub judged : {call options items serial : Bool} → call ≡ has_call service → options ≡ one_of head.options (options_of service)
-        → items ≡ only_these (items_of service) (message_at s).items → serial ≡ serial_fits (message_at s)
-        → call && not ((options && items) && serial) ≡ misfits (message_at s)
+  module _ {service : Service} (is : service_of m.service ≡ Some service) (fit : misfits m ≡ false) where
+    needs_met : fits service m ≡ true
     unfolding misfits
-    judged p q r t = rw (p, q, r, t, head-options s head h, named-service) (ap (λ (b : Bool). has_call (service_of (message_at s).service) && not b) (and_assoc (options_fit (message_at s)) (items_fit (message_at s)) (serial_fits (message_at s))))
+    needs_met = not-false (fits service m) (rw is at fit)
 
-    module _ (fit : misfits (message_at s) ≡ false) (call : has_call service ≡ true) where
-      needs_met : options_fit (message_at s) && (items_fit (message_at s) && serial_fits (message_at s)) ≡ true
-      unfolding misfits
-      needs_met =
-          let served : has_call (service_of (message_at s).service) ≡ true = rw (← named-service) call in
-          not-false (options_fit (message_at s) && (items_fit (message_at s) && serial_fits (message_at s))) (rw served at fit)
+    pub serial-given : serial_in m ≡ Some (serial_of m)
+    serial-given =
+        let t : serial_fits m ≡ true = and_right (only_these (items_of service) m.items) _ (and_right (one_of m.options (options_of service)) _ needs_met) in
+        rw t
 
-      pub serial-given : serial_fits (message_at s) ≡ true
-      serial-given = and_right (items_fit (message_at s)) _ (and_right (options_fit (message_at s)) _ needs_met)
+    pub serial-is : {o : Option ℕ} {serial : ℕ} → o ≡ serial_in m → o ≡ Some serial → serial ≡ serial_of m
+    serial-is {o} {serial} e there = let same : Some serial ≡ Some (serial_of m) = sym there ∙ e ∙ serial-given in cc
 
-      pub options-given : one_of head.options (options_of service) ≡ true
-      options-given = rw (head-options s head h, named-service) (and_left _ _ needs_met)
-
-    pub sync-options : misfits (message_at s) ≡ false → service ≡ Service.Sync → head.options < 256
-    sync-options fit e =
-        let t : one_of head.options (options_of service) ≡ true = options-given fit (rw e) in
-        by-test (eqb head.options 1)
-        (λ a. let x = eqb-true head.options 1 a in omega arith)
-        (λ a. by-test (eqb head.options 2)
-        (λ b. let x = eqb-true head.options 2 b in omega arith)
+    pub sync-options : service ≡ Service.Sync → m.options < 256
+    sync-options e =
+        let t : one_of m.options (options_of service) ≡ true = and_left _ _ needs_met in
+        by-test (eqb m.options 1)
+        (λ a. let x = eqb-true m.options 1 a in omega arith)
+        (λ a. by-test (eqb m.options 2)
+        (λ b. let x = eqb-true m.options 2 b in omega arith)
         (λ b. let z : false ≡ true = rw (e, a, b) at t in impossible (cc)))
 
-    -- ---- what is returned
+-- ---- what is returned
 
-    module _ (passwords : PasswordRule) (clock : ℕ) (t : List ℕ) {reply misfit : Bool} (replies : reply ≡ is_reply head.kind) (judges : misfit ≡ misfits (message_at s)) where
-      same_tests : reply || misfit ≡ is_reply (message_at s).kind || misfits (message_at s)
-      same_tests = rw (replies, head-kind s head h, judges)
+module _ (s : List ℕ) {x : Option (List ℕ)} (framed : x ≡ framed_as s) (passwords : PasswordRule) (clock : ℕ) (t : List ℕ) where
+  pub malformed-refused : x ≡ None → refused Refusal.BadMessage t ≡ read_after passwords (message_reads s clock) t
+  unfolding message_reads frame_of read_after
+  malformed-refused e = rw (not_framed s (sym framed ∙ e))
 
-      pub unfit-refused : reply || misfit ≡ true → refused Refusal.BadMessage t ≡ read_after passwords (message_reads s clock) t
-      unfolding message_reads frame_of read_after
-      unfit-refused b = let e : is_reply (message_at s).kind || misfits (message_at s) ≡ true = sym same_tests ∙ b in rw (h.fits, e)
+  module _ {f : List ℕ} (whole : x ≡ Some f) {reply misfit : Bool} (replies : reply ≡ is_reply (message_at f).kind) (judges : misfit ≡ misfits (message_at f)) where
+    here : (frame_fits s ≡ true) × (f ≡ s)
+    here = is-framed s (sym framed ∙ whole)
 
-      module _ (fine : reply || misfit ≡ false) where
-        right : is_reply (message_at s).kind || misfits (message_at s) ≡ false
-        right = sym same_tests ∙ fine
+    same_tests : reply || misfit ≡ is_reply (message_at s).kind || misfits (message_at s)
+    same_tests = rw (replies, judges, here.1)
 
-        pub fits-call : misfits (message_at s) ≡ false
-        fits-call = or_right (is_reply (message_at s).kind) _ right
+    pub unfit-refused : reply || misfit ≡ true → refused Refusal.BadMessage t ≡ read_after passwords (message_reads s clock) t
+    unfolding message_reads frame_of read_after
+    unfit-refused b = let e : is_reply (message_at s).kind || misfits (message_at s) ≡ true = sym same_tests ∙ b in rw (here.0, e)
 
-        pub mac_refused : {mac : Bool} → mac ≡ mac_fits s → not mac ≡ true → refused Refusal.BadMac t ≡ read_after passwords (message_reads s clock) t
+    module _ (fine : reply || misfit ≡ false) where
+      right : is_reply (message_at s).kind || misfits (message_at s) ≡ false
+      right = sym same_tests ∙ fine
+
+      pub fits-call : misfits (message_at f) ≡ false
+      fits-call = sym judges ∙ or_right reply _ fine
+
+      module _ {mac : Bool} (fit : mac ≡ mac_fits f) where
+        pub mac_refused : not mac ≡ true → refused Refusal.BadMac t ≡ read_after passwords (message_reads s clock) t
         unfolding message_reads frame_of read_after
-        mac_refused {mac} m n = let e : mac_fits s ≡ false = sym m ∙ not-true mac n in rw (h.fits, right, e)
+        mac_refused n = let e : mac_fits s ≡ false = rw here.1 at (sym fit ∙ not-true mac n) in rw (here.0, right, e)
 
-        pub message-served : {mac : Bool} {r : Result} → mac ≡ mac_fits s → not mac ≡ false → r ≡ read_after passwords (call_for service (message_at s) clock) t → r ≡ read_after passwords (message_reads s clock) t
-        unfolding message_reads frame_of
-        message-served {mac} m n e = let f : mac_fits s ≡ true = sym m ∙ not-false mac n in rw (h.fits, right, f, ← named-service) e
+        module _ (n : not mac ≡ false) {o : Option Service} (named : o ≡ service_of (message_at f).service) where
+          sealed : mac_fits s ≡ true
+          sealed = rw here.1 at (sym fit ∙ not-false mac n)
+
+          same_service : service_of (message_at s).service ≡ o
+          same_service = rw here.1 at (sym named)
+
+          pub no-call : o ≡ None → refused Refusal.NoService t ≡ read_after passwords (message_reads s clock) t
+          unfolding message_reads frame_of read_after
+          no-call e = let none : service_of (message_at s).service ≡ None = same_service ∙ e in rw (here.0, right, sealed, none)
+
+          pub message-served : {service : Service} {r : Result} → o ≡ Some service → r ≡ read_after passwords (call_for (Some service) (message_at f) clock) t → r ≡ read_after passwords (message_reads s clock) t
+          unfolding message_reads frame_of
+          message-served {service} {r} e p =
+              let some : service_of (message_at s).service ≡ Some service = same_service ∙ e in
+              let q : r ≡ read_after passwords (call_for (Some service) (message_at s) clock) t = rw here.1 at p in
+              rw (here.0, right, sealed, some) q
 
 -- ---- the call of a service
 
 module _ (passwords : PasswordRule) (t : List ℕ) where
-  pub call-served : {reads : Reads} {call : DeskCall} {r : Result} → r ≡ desk_after passwords call t → reads ≡ Reads.serves call → r ≡ read_after passwords reads t
+  pub call-served : {call told : DeskCall} {r : Result} → r ≡ desk_after passwords call t → told ≡ call → r ≡ read_after passwords (Reads.serves told) t
   unfolding read_after
   call-served e f = rw f e

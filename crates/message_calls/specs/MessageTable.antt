@@ -8,11 +8,11 @@ use Rattle.token.specs.declared.answers.Refusal.{Refusal}
 use Rattle.desk.specs.Requests.{login_call, challenge_call, activate_call, lock_call, unlock_call, suspend_call, resume_call, sync_call, void_call, query_call}
 use Rattle.desk.specs.Reads.{Reads}
 use Rattle.message.specs.Message.{items_at, items_end, all_plain, lengths_add_up, attributes_plain, message_at, frame_fits, frame_of, mac_fits}
-use Rattle.message_calls.specs.Serving.{service_of, count_of, content_of, only_these, misfits, call_for, message_reads}
+use Rattle.message_calls.specs.Serving.{service_of, count_of, content_of, only_these, misfits, call_of, message_reads}
 
 -- what bytes come to at that clock; opened, it opens all that it computes with
 unfoldable pub comes_to : List ℕ → Reads
-unfolding message_reads frame_of frame_fits lengths_add_up attributes_plain message_at items_at items_end all_plain service_of count_of content_of only_these misfits call_for mac_fits be_at same_bytes
+unfolding message_reads frame_of frame_fits lengths_add_up attributes_plain message_at items_at items_end all_plain service_of count_of content_of only_these misfits call_of mac_fits be_at same_bytes
     sm3_of padded zeros_after words_at next_word expand round round_with rounds ff gg compressed iterated digest be_bytes ◌⋘◌
 comes_to bytes = message_reads bytes 1000
 

@@ -1,11 +1,11 @@
 -- What is promised of messages that are served (document 02, Ask 1): which code says what, and that whoever chooses messages chooses no more than calls.
 -- This page has the statements; `CodesLaws` and `PromiseLaws` have the proofs.
+use Rattle.token.specs.Answers.{Answer}
 use Rattle.std.specs.Prelude.{ℕ, ◌*◌, ◌≤◌, ◌≡◌, true, false, List, [], ◌∷◌, map, replicate}
 use Rattle.words.specs.Lists.{one_of}
 use Rattle.words.specs.Exactly.{Exactly}
 use Rattle.window.specs.PasswordAt.{PasswordRule}
 use Rattle.row.specs.Row.{row_bytes}
-use Rattle.token.specs.declared.answers.Answer.{Answer}
 use Rattle.token.specs.Codes.{number_of}
 use Rattle.desk.specs.Requests.{DeskCall}
 use Rattle.desk.specs.Desk.{Result}

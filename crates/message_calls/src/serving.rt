@@ -1,65 +1,56 @@
 // A message served as its call.
-ghost use Rattle.std.specs.Prelude.{◌≡◌, false};
+ghost use Rattle.std.specs.Prelude.{◌≡◌, false, Some};
 ghost use Rattle.window.specs.PasswordAt.{password_at};
 ghost use Rattle.desk.specs.Desk.{result_of};
 ghost use Rattle.desk.specs.Reads.{read_after};
 ghost use Rattle.message.specs.Message.{message_at};
-ghost use Rattle.message.specs.Walking.{HeadOf};
 ghost use Rattle.message_calls.specs.Serving.{service_of, misfits, call_for, message_reads};
+ghost use Rattle.message_calls.specs.Finding.{fits};
 
-use crate::items::{content, items_fit, serial_fits, serial_of};
-use crate::services::{
-    CHALLENGE, FOLLOWING, PASSWORD, RESPONSE, Service, has_call, options_fit, service_of,
-};
+use crate::items::{content, items_fit, serial_of};
+use crate::services::{CHALLENGE, FOLLOWING, PASSWORD, RESPONSE, Service, options_fit, service_of};
 use desk::{activate, challenge_login, lock, login, query, resume, suspend, sync, unlock, void};
-use message::frame::{Framed, Head, frame_of, is_reply};
-use message::mac::mac_fits;
+use message::{Framed, frame_of};
 use token::{Answer, Refusal};
 use window::Seconds;
 
-// Whether the service has a call, and options, items or serial are not that call's.
-fn misfits(message: &[u8], head: Head, service: Service) -> bool
-    requires head_of { HeadOf message.now head }
-    requires service_value { service ≡ service_of head.service }
-    ensures { result ≡ misfits (message_at message.now) }
+// Whether options, items and serial are those of the service's call.
+fn fits(framed: &Framed, service: Service) -> bool
+    ensures { result ≡ fits service (message_at framed.now) }
 {
-    let fits = options_fit(service, head.options)
-        & items_fit(message, head, service)
-        & serial_fits(message, head);
-    has_call(service) & !fits
+    options_fit(service, framed.heading().options)
+        & items_fit(framed, service)
+        & serial_of(framed).is_some()
+}
+
+// Whether the service has a call, and options, items or serial are not that call's.
+fn misfits(framed: &Framed) -> bool
+    ensures { result ≡ misfits (message_at framed.now) }
+{
+    let Some(service) = service_of(framed.heading().service) else {
+        return false;
+    };
+    !fits(framed, service)
 }
 
 // The call of a service.
-fn serve_call(
-    table: &mut [u8],
-    message: &[u8],
-    head: Head,
-    service: Service,
-    clock: Seconds,
-) -> Answer
-    requires head_of { HeadOf message.now head }
-    requires service_value { service ≡ service_of head.service }
-    requires message_value { misfits (message_at message.now) ≡ false }
-    ensures { result_of result table.new ≡ read_after password_at (call_for service (message_at message.now) clock.0) table.old }
+fn serve_call(table: &mut [u8], framed: &Framed, service: Service, clock: Seconds) -> Answer
+    requires service_value { service_of (message_at framed.now).service ≡ Some service }
+    requires message_value { misfits (message_at framed.now) ≡ false }
+    ensures { result_of result table.new ≡ read_after password_at (call_for (Some service) (message_at framed.now) clock.0) table.old }
 {
-    let serial = serial_of(message, head);
-    let password = content(message, head, PASSWORD);
+    let serial = serial_of(framed).unwrap();
+    let password = content(framed, PASSWORD);
     match service {
         Service::Login => login(table, serial, clock, password),
         Service::ChallengeLogin => challenge_login(
             table,
             serial,
             clock,
-            content(message, head, CHALLENGE),
-            content(message, head, RESPONSE),
+            content(framed, CHALLENGE),
+            content(framed, RESPONSE),
         ),
-        Service::Activate => activate(
-            table,
-            serial,
-            clock,
-            password,
-            content(message, head, FOLLOWING),
-        ),
+        Service::Activate => activate(table, serial, clock, password, content(framed, FOLLOWING)),
         Service::Lock => lock(table, serial, clock),
         Service::Unlock => unlock(table, serial, clock, password),
         Service::Suspend => suspend(table, serial, clock),
@@ -68,13 +59,12 @@ fn serve_call(
             table,
             serial,
             clock,
-            head.options as u8,
+            framed.heading().options as u8,
             password,
-            content(message, head, FOLLOWING),
+            content(framed, FOLLOWING),
         ),
         Service::Void => void(table, serial, clock),
         Service::Query => query(table, serial, clock),
-        Service::NoCall => Answer::Refused(Refusal::NoService),
     }
 }
 
@@ -82,15 +72,13 @@ fn serve_call(
 pub fn serve_message(table: &mut [u8], message: &[u8], clock: Seconds) -> Answer
     ensures { result_of result table.new ≡ read_after password_at (message_reads message.now clock.0) table.old }
 {
-    let Framed::Whole(head) = frame_of(message) else {
-        return Answer::Refused(Refusal::BadMessage);
-    };
-    let service = service_of(head.service);
-    if is_reply(head.kind) | misfits(message, head, service) {
-        return Answer::Refused(Refusal::BadMessage);
+    let framed = frame_of(message).ok_or(Refusal::BadMessage)?;
+    if framed.is_reply() | misfits(&framed) {
+        return Err(Refusal::BadMessage);
     }
-    if !mac_fits(message) {
-        return Answer::Refused(Refusal::BadMac);
+    if !framed.mac_fits() {
+        return Err(Refusal::BadMac);
     }
-    serve_call(table, message, head, service, clock)
+    let service = service_of(framed.heading().service).ok_or(Refusal::NoService)?;
+    serve_call(table, &framed, service, clock)
 }

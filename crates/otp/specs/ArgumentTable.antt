@@ -1,9 +1,7 @@
 -- The arguments of a password (document 01, Part 2), as a table with one proof: each at both ends of its range, where it is taken, and beyond them.
-use Rattle.std.specs.Prelude.{◌≡◌, ℕ, ◌-◌, ◌^◌, Bool, true, not, ◌&&◌, List, [], ◌∷◌, ◌++◌, replicate, refl}
+use Rattle.std.specs.Prelude.{◌≡◌, ℕ, ◌-◌, ◌^◌, Bool, true, not, ◌&&◌, List, [], ◌∷◌, ◌++◌, replicate, refl, Some, None}
 use Rattle.words.specs.Lists.{all_within}
-use Rattle.otp.specs.declared.Factor.{Factor}
-use Rattle.otp.specs.declared.Factor.TheVariants.{Absent, Present}
-use Rattle.otp.specs.Password.{challenge_ok, arguments_ok}
+use Rattle.otp.specs.Password.{challenge_ok, arguments_ok, Factor}
 
 -- what a password is made of; its key is so many bytes
 pub record Arguments : Type 0 where
@@ -32,27 +30,27 @@ none_taken (a ∷ more) = not (taken a) && none_taken more
 -- algorithm 3 or 4, key of 16 to 32 bytes, T or C, C below 2^32, no challenge or 4 to 32 bytes of 21 to 7e, 6 to 10 digits
 abbrev pub within_ranges : List Arguments
 within_ranges =
-    arguments 3 16 (Present 0) Absent [] 6
-    ∷ arguments 4 32 Absent (Present (2 ^ 32 - 1)) [] 10
-    ∷ arguments 4 16 (Present (2 ^ 64 - 1)) (Present 0) (replicate 4 0x21) 6
-    ∷ arguments 3 32 (Present 0) (Present 0) (replicate 32 0x7e) 10
+    arguments 3 16 (Some 0) None [] 6
+    ∷ arguments 4 32 None (Some (2 ^ 32 - 1)) [] 10
+    ∷ arguments 4 16 (Some (2 ^ 64 - 1)) (Some 0) (replicate 4 0x21) 6
+    ∷ arguments 3 32 (Some 0) (Some 0) (replicate 32 0x7e) 10
     ∷ []
 
 abbrev pub beyond_ranges : List Arguments
 beyond_ranges =
-    arguments 2 16 (Present 0) Absent [] 6
-    ∷ arguments 5 16 (Present 0) Absent [] 6
-    ∷ arguments 3 15 (Present 0) Absent [] 6
-    ∷ arguments 3 33 (Present 0) Absent [] 6
-    ∷ arguments 3 16 Absent Absent [] 6
-    ∷ arguments 3 16 Absent (Present (2 ^ 32)) [] 6
-    ∷ arguments 3 16 (Present 0) Absent (replicate 1 0x21) 6
-    ∷ arguments 3 16 (Present 0) Absent (replicate 3 0x21) 6
-    ∷ arguments 3 16 (Present 0) Absent (replicate 33 0x21) 6
-    ∷ arguments 3 16 (Present 0) Absent (0x20 ∷ replicate 3 0x21) 6
-    ∷ arguments 3 16 (Present 0) Absent (replicate 3 0x21 ++ (0x7f ∷ [])) 6
-    ∷ arguments 3 16 (Present 0) Absent [] 5
-    ∷ arguments 3 16 (Present 0) Absent [] 11
+    arguments 2 16 (Some 0) None [] 6
+    ∷ arguments 5 16 (Some 0) None [] 6
+    ∷ arguments 3 15 (Some 0) None [] 6
+    ∷ arguments 3 33 (Some 0) None [] 6
+    ∷ arguments 3 16 None None [] 6
+    ∷ arguments 3 16 None (Some (2 ^ 32)) [] 6
+    ∷ arguments 3 16 (Some 0) None (replicate 1 0x21) 6
+    ∷ arguments 3 16 (Some 0) None (replicate 3 0x21) 6
+    ∷ arguments 3 16 (Some 0) None (replicate 33 0x21) 6
+    ∷ arguments 3 16 (Some 0) None (0x20 ∷ replicate 3 0x21) 6
+    ∷ arguments 3 16 (Some 0) None (replicate 3 0x21 ++ (0x7f ∷ [])) 6
+    ∷ arguments 3 16 (Some 0) None [] 5
+    ∷ arguments 3 16 (Some 0) None [] 11
     ∷ []
 
 pub password-arguments-hold : all_taken within_ranges && none_taken beyond_ranges ≡ true

@@ -1,31 +1,29 @@
 -- Laws of the SM4 way.
-use Rattle.std.specs.Prelude.{◌≡◌, ℕ, zero, suc, ◌+◌, ◌-◌, ◌*◌, ◌/◌, ◌%◌, ◌^◌, ◌<◌, ◌≤◌, max, cond, List, ◌++◌, length, take, drop, replicate, nat_lt, refl}
-use Rattle.std.proofs.Common.{sym, ap, ◌∙◌, append_assoc, append-nil, not-suc-le-zero, zero-add, arith, ltb-true, ltb-false, length-append, length-drop, drop_of_length-le}
+use mir.Val.{bool_byte}
+use Rattle.std.specs.Bool.{FalseIff}
+use Rattle.std.specs.Prelude.{◌≡◌, Bool, true, false, ℕ, zero, suc, Result, Ok, IsOk, ◌+◌, ◌-◌, ◌*◌, ◌/◌, ◌%◌, ◌^◌, ◌<◌, ◌≤◌, max, List, ◌++◌, length, take, drop, replicate, refl}
+use Rattle.std.proofs.Common.{sym, ap, ◌∙◌, append_assoc, append-nil, not-suc-le-zero, zero-add, arith, length-append, length-drop, drop_of_length-le}
 use Rattle.std.proofs.Math.Nat.{mod-add-mod}
 use Rattle.std.proofs.lemmas.List.{length-replicate, replicate-append-replicate, drop-append-le, take-append-le}
 use Rattle.std.proofs.Math.Seq.{length-take-le}
+use Rattle.words.specs.declared.codes.BadArgument.{BadArgument}
 use Rattle.words.specs.ListsLaws.{drop_zeros}
-use Rattle.words.specs.BoolLaws.{by-test}
 use Rattle.words.specs.Bytes.{be_at, be_bytes, put}
 use Rattle.words.specs.BytesLaws.{length-be_bytes, be_at-split, be_bytes-split, be_bytes-mod}
 use Rattle.sm4.specs.Sm4.{words_of, encrypt_with, reversed, round_keys, sm4_of, keys_answer, encrypt_words_answer, first_answer}
 use Rattle.sm4.specs.Sm4Laws.{length-round_keys}
 use Rattle.sm4.specs.EncryptLaws.{output_words}
-use Rattle.sm4.specs.declared.chaining.CipherWords.{CipherWords}
 use Rattle.sm4.specs.declared.round.Quad.{Quad}
 use Rattle.sm4.specs.declared.chaining.First.{First}
-use Rattle.sm4.specs.declared.schedule.Keys.{Keys}
 use Rattle.otp.specs.Password.{block_at, block_sum, output_of, chained, filled, to_blocks, word_sum, cut}
 use Rattle.otp.specs.Chain.{prepared, chain, words_number, words_sum}
 
 -- ---- the sum of two blocks, by halves
 
--- the carry out of the lower halves is seen in their sum
-carried : (a b : ℕ) → a < 2 ^ 64 → b < 2 ^ 64 → cond (nat_lt ((a + b) % 2 ^ 64) a) 1 0 ≡ (a + b) / 2 ^ 64
-carried a b p q =
-    by-test (nat_lt ((a + b) % 2 ^ 64) a)
-    (λ t. let h = ltb-true ((a + b) % 2 ^ 64) a t in rw t (omega arith))
-    (λ t. let h = ltb-false ((a + b) % 2 ^ 64) a t in rw t (omega arith))
+-- the carry out of the lower halves
+carried : (carry : Bool) {a b : ℕ} → a < 2 ^ 64 → b < 2 ^ 64 → FalseIff carry (a + b < 2 ^ 64) → bool_byte carry ≡ (a + b) / 2 ^ 64
+carried true p q o = omega arith
+carried false p q o = omega arith
 
 high_half : (ah al bh bl : ℕ) → (ah * 2 ^ 64 + al + (bh * 2 ^ 64 + bl)) / 2 ^ 64 % 2 ^ 64 ≡ (ah + bh + (al + bl) / 2 ^ 64) % 2 ^ 64
 high_half ah al bh bl = let e : (ah * 2 ^ 64 + al + (bh * 2 ^ 64 + bl)) / 2 ^ 64 ≡ ah + bh + (al + bl) / 2 ^ 64 = omega arith in rw e
@@ -47,14 +45,15 @@ bytes-words high low h l =
     let laid : be_bytes 8 high ++ be_bytes 8 low ≡ reversed state = rw (eight high, eight low) (simp append_assoc) in
     rw laid (sym (output_words state (omega arith) (omega arith) (omega arith) (omega arith)))
 
-pub sum_of_halves : (p q : Quad) {ah al bh bl ls h hs carry : ℕ} → ah ≡ p.a * 2 ^ 32 + p.b → al ≡ p.c * 2 ^ 32 + p.d → bh ≡ q.a * 2 ^ 32 + q.b → bl ≡ q.c * 2 ^ 32 + q.d
-    → al < 2 ^ 64 → bl < 2 ^ 64
-    → ls ≡ (al + bl) % 2 ^ 64 → h ≡ (ah + bh) % 2 ^ 64 → carry ≡ cond (nat_lt ls al) 1 0 → hs ≡ (h + carry) % 2 ^ 64
-    → ◌≡◌ {A = Quad} (record { a = hs / 2 ^ 32; b = hs % 2 ^ 32; c = ls / 2 ^ 32; d = ls % 2 ^ 32 }) (words_sum p q)
-sum_of_halves p q {ah} {al} {bh} {bl} {ls} {h} {hs} {carry} ea el eb em la lb l i c e =
-    let k : carry ≡ (al + bl) / 2 ^ 64 = c ∙ rw l (carried al bl la lb) in
+pub sum_of_halves : (p q : Quad) {ah al bh bl ls : ℕ} (carry : Bool) → ah ≡ p.a * 2 ^ 32 + p.b → al ≡ p.c * 2 ^ 32 + p.d → bh ≡ q.a * 2 ^ 32 + q.b → bl ≡ q.c * 2 ^ 32 + q.d
+    → al < 2 ^ 64 → bl < 2 ^ 64 → ls ≡ (al + bl) % 2 ^ 64 → FalseIff carry (al + bl < 2 ^ 64)
+    → let hs = ((ah + bh) % 2 ^ 64 + bool_byte carry) % 2 ^ 64 in
+    ◌≡◌ {A = Quad} (record { a = hs / 2 ^ 32; b = hs % 2 ^ 32; c = ls / 2 ^ 32; d = ls % 2 ^ 32 }) (words_sum p q)
+sum_of_halves p q {ah} {al} {bh} {bl} {ls} carry ea el eb em la lb l o =
+    let hs = ((ah + bh) % 2 ^ 64 + bool_byte carry) % 2 ^ 64 in
+    let k : bool_byte carry ≡ (al + bl) / 2 ^ 64 = carried carry la lb o in
     let sum = ah * 2 ^ 64 + al + (bh * 2 ^ 64 + bl) in
-    let high : sum / 2 ^ 64 % 2 ^ 64 ≡ hs = high_half ah al bh bl ∙ rw (← k) (sym (e ∙ rw i (mod-add-mod (ah + bh) (2 ^ 64) carry))) in
+    let high : sum / 2 ^ 64 % 2 ^ 64 ≡ hs = high_half ah al bh bl ∙ rw (← k) (sym (mod-add-mod (ah + bh) (2 ^ 64) (bool_byte carry))) in
     let low : sum % 2 ^ 64 ≡ ls = low_half ah al bh bl ∙ sym l in
     let bytes : be_bytes 16 (sum % 2 ^ 128) ≡ be_bytes 8 hs ++ be_bytes 8 ls = halves_bytes sum ∙ rw (high, low) in
     rw (← ea, ← el, ← eb, ← em, bytes) (sym (bytes-words hs ls (omega arith) (omega arith)))
@@ -74,10 +73,19 @@ length-encrypted : (keys block : List ℕ) → length (encrypt_with keys block) 
 unfolding encrypt_with reversed
 length-encrypted keys block = simp (length-append, length-be_bytes)
 
--- under 32 words a block's words are encrypted
-encrypted : (keys block : List ℕ) {w : Quad} {c : CipherWords} → length keys ≡ 32 → w ≡ words_of block → c ≡ encrypt_words_answer keys w → c.output ≡ words_of (encrypt_with keys block)
-unfolding encrypt_words_answer encrypt_with
-encrypted keys block k b e = rw (e, k, b)
+-- under 32 words a block is encrypted
+module _ (keys : List ℕ) (w : Quad) {c : Result Quad BadArgument} (k : length keys ≡ 32) (e : c ≡ encrypt_words_answer keys w) where
+  pub encrypted_ok : IsOk c
+  unfolding encrypt_words_answer
+  encrypted_ok = rw (e, k)
+
+  encrypted : (block : List ℕ) {out : Quad} → w ≡ words_of block → c ≡ Ok out → out ≡ words_of (encrypt_with keys block)
+  unfolding encrypt_words_answer encrypt_with
+  encrypted block {out} b o =
+      let answer : Ok out ≡ encrypt_words_answer keys (words_of block) = sym o ∙ e ∙ rw b in
+      let made : encrypt_words_answer keys (words_of block) ≡ Ok (words_of (encrypt_with keys block)) = rw k in
+      let same : Ok out ≡ Ok (words_of (encrypt_with keys block)) = answer ∙ made in
+      cc
 
 length-chain : (keys s : List ℕ) (i : ℕ) → length (chain keys s i) ≡ 16
 unfolding chain
@@ -88,16 +96,23 @@ pub length-prepared : (key : List ℕ) → length (prepared key) ≡ 32
 length-prepared key = length-round_keys (take 16 key)
 
 -- the round keys by themselves
-module _ (key : List ℕ) {k : Keys} (h : 16 ≤ length key) (e : k ≡ keys_answer (take 16 key)) where
-  prepared_keys : k.words ≡ prepared key
+module _ (key : List ℕ) {c : Result (List ℕ) BadArgument} (h : 16 ≤ length key) (e : c ≡ keys_answer (take 16 key)) where
+  pub keys_ok : IsOk c
   unfolding keys_answer
-  prepared_keys = rw (e, length-take-le 16 key h)
+  keys_ok = rw (e, length-take-le 16 key h)
 
-  pub keys_length : length k.words ≡ 32
-  keys_length = rw prepared_keys (length-prepared key)
+  pub prepared_keys : {ks : List ℕ} → c ≡ Ok ks → ks ≡ prepared key
+  unfolding keys_answer
+  prepared_keys {ks} o =
+      let made : keys_answer (take 16 key) ≡ Ok (prepared key) = rw (length-take-le 16 key h) in
+      let same : Ok ks ≡ Ok (prepared key) = sym o ∙ e ∙ made in
+      cc
 
-  pub keys_put : (ready : List ℕ) {after : List ℕ} → length ready ≡ 32 → after ≡ k.words ++ drop (length k.words) ready → after ≡ prepared key
-  keys_put ready l p = let none : length ready ≤ 32 = omega arith in p ∙ rw (keys_length, drop_of_length-le ready, append-nil, prepared_keys)
+  pub keys_put : {ks : List ℕ} (ready : List ℕ) {after : List ℕ} → c ≡ Ok ks → length ready ≡ 32 → after ≡ ks ++ drop (length ks) ready → after ≡ prepared key
+  keys_put {ks} ready o l p =
+      let long : length ks ≡ 32 = rw (prepared_keys o) (length-prepared key) in
+      let none : length ready ≤ 32 = omega arith in
+      p ∙ rw (long, drop_of_length-le ready, append-nil, prepared_keys o)
 
 -- a part of a slice is a block
 pub block_part : (s : List ℕ) (i : ℕ) → take (16 * i + 16 - 16 * i) (drop (16 * i) s) ≡ block_at s i
@@ -105,23 +120,23 @@ unfolding block_at
 block_part s i = let e : 16 * i + 16 - 16 * i ≡ 16 = omega arith in rw e
 
 -- the first output, from the block's words
-pub chain_first : (keys s : List ℕ) {w : Quad} {c : CipherWords} → length keys ≡ 32 → w ≡ words_of (take (16 - 0) (drop 0 s)) → c ≡ encrypt_words_answer keys w
-    → c.output ≡ words_of (chain keys s 0)
+pub chain_first : (keys s : List ℕ) {w out : Quad} {c : Result Quad BadArgument} → length keys ≡ 32 → w ≡ words_of (take (16 - 0) (drop 0 s)) → c ≡ encrypt_words_answer keys w
+    → c ≡ Ok out → out ≡ words_of (chain keys s 0)
 unfolding chain block_at
-chain_first keys s k e c = encrypted keys (take 16 s) k e c
+chain_first keys s k e c o = encrypted keys _ k c (take 16 s) e o
 
 -- one more output
-pub chain_more : (keys s : List ℕ) (i : ℕ) {out w sum : Quad} {c : CipherWords} → 0 < i → length keys ≡ 32 → out ≡ words_of (chain keys s (i - 1))
-    → w ≡ words_of (take (16 * i + 16 - 16 * i) (drop (16 * i) s)) → sum ≡ words_sum out w → c ≡ encrypt_words_answer keys sum
-    → c.output ≡ words_of (chain keys s (i + 1 - 1))
+pub chain_more : (keys s : List ℕ) (i : ℕ) {out w sum next : Quad} {c : Result Quad BadArgument} → 0 < i → length keys ≡ 32 → out ≡ words_of (chain keys s (i - 1))
+    → w ≡ words_of (take (16 * i + 16 - 16 * i) (drop (16 * i) s)) → sum ≡ words_sum out w → c ≡ encrypt_words_answer keys sum → c ≡ Ok next
+    → next ≡ words_of (chain keys s (i + 1 - 1))
 unfolding chain
-chain_more keys s zero h k p q r e = absurd (not-suc-le-zero h)
-chain_more keys s (suc i) {out} {w} {sum} h k p q r e =
+chain_more keys s zero h k p q r e o = absurd (not-suc-le-zero h)
+chain_more keys s (suc i) {out} {w} {sum} h k p q r e o =
     let a : suc i - 1 ≡ i = omega arith in
     let b : suc i + 1 - 1 ≡ suc i = omega arith in
     let added : sum ≡ words_of (block_sum (chain keys s i) (block_at s (suc i))) =
     r ∙ rw (p, q, a, block_part s (suc i)) (sum-words (chain keys s i) (block_at s (suc i))) in
-    rw b (encrypted keys (block_sum (chain keys s i) (block_at s (suc i))) k added e)
+    rw b (encrypted keys _ k e (block_sum (chain keys s i) (block_at s (suc i))) added o)
 
 block_append : (s t : List ℕ) (i : ℕ) → 16 * (i + 1) ≤ length s → block_at (s ++ t) i ≡ block_at s i
 unfolding block_at
@@ -171,10 +186,19 @@ block_length s i h = length-take-le 16 (drop (16 * i) s) (rw length-drop (omega 
 -- ---- a key that is used once
 
 -- the first block's output and the round keys, made side by side
-pub first_output : (key s : List ℕ) {f : First} → 16 ≤ length key → 16 ≤ length s → f ≡ first_answer (take (16 - 0) (drop 0 key)) (take (16 - 0) (drop 0 s))
-    → (f.keys ≡ prepared key) × (f.output ≡ words_of (chain f.keys s 0))
-unfolding chain block_at first_answer sm4_of
-first_output key s k l e = rw (e, length-take-le 16 key k, length-take-le 16 s l) (refl, refl)
+module _ (key s : List ℕ) {c : Result First BadArgument} (k : 16 ≤ length key) (l : 16 ≤ length s) (e : c ≡ first_answer (take (16 - 0) (drop 0 key)) (take (16 - 0) (drop 0 s))) where
+  pub first_ok : IsOk c
+  unfolding first_answer
+  first_ok = rw (e, length-take-le 16 key k, length-take-le 16 s l)
+
+  pub first_output : {f : First} → c ≡ Ok f → (f.keys ≡ prepared key) × (f.output ≡ words_of (chain f.keys s 0))
+  unfolding chain block_at first_answer sm4_of
+  first_output {f} o =
+      let made : first_answer (take 16 key) (take 16 s) ≡ Ok (record { keys = prepared key; output = words_of (sm4_of (take 16 key) (take 16 s)) }) =
+      rw (length-take-le 16 key k, length-take-le 16 s l) in
+      let same : Ok f ≡ Ok (record { keys = prepared key; output = words_of (sm4_of (take 16 key) (take 16 s)) }) = sym o ∙ e ∙ made in
+      let is : f ≡ record { keys = prepared key; output = words_of (sm4_of (take 16 key) (take 16 s)) } = cc in
+      rw is (refl, refl)
 
 -- the cut, from the words of the last output
 pub ciphered_of : (key id : List ℕ) {keys buffer : List ℕ} {end : ℕ} {w : Quad} {r : ℕ} → length id ≤ 44 → keys ≡ prepared key

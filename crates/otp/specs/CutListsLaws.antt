@@ -6,8 +6,7 @@ use Rattle.std.proofs.Math.Nat.{sub-zero}
 use Rattle.std.proofs.Math.Seq.{drop-length}
 use Rattle.words.specs.BoolLaws.{and_left, and_right}
 use Rattle.sm3.specs.Sm3.{sm3_of}
-use Rattle.otp.specs.declared.Factor.{Factor}
-use Rattle.otp.specs.Password.{algorithm_sm3, id_of, filled, chained, cut}
+use Rattle.otp.specs.Password.{algorithm_sm3, id_of, filled, chained, cut, Factor}
 use Rattle.otp.specs.PasswordLaws.{keyed_hashed, keyed-chained}
 use Rattle.otp.specs.Chain.{prepared}
 use Rattle.otp.specs.StepCuts.{time_at, count_at, step_id, hashed_cut, cut_by, cuts_from}

@@ -1,26 +1,24 @@
 -- Laws of what is laid into a buffer of zeros.
-use Rattle.std.specs.Prelude.{◌≡◌, ℕ, ◌+◌, ◌≤◌, List, ◌++◌, length}
+use Rattle.std.specs.Prelude.{◌≡◌, ℕ, ◌+◌, ◌≤◌, List, ◌++◌, length, Some, None}
 use Rattle.std.proofs.Common.{zero-le, sym, ◌∙◌, append_assoc, add-zero, arith}
 use Rattle.std.proofs.Math.ListN.{length-append}
 use Rattle.words.specs.Bytes.{put, put_be}
 use Rattle.words.specs.BytesLaws.{length-be_bytes, put_be-put}
 use Rattle.words.specs.PutLaws.{put_nothing, put_on}
-use Rattle.otp.specs.declared.Factor.{Factor}
-use Rattle.otp.specs.declared.Factor.TheVariants.{Absent, Present}
-use Rattle.otp.specs.Password.{factor_bytes, id_of}
+use Rattle.otp.specs.Password.{factor_bytes, id_of, Factor}
 
 -- a factor's bytes
 pub factor_length : (width : ℕ) (f : Factor) → length (factor_bytes width f) ≤ width
 unfolding factor_bytes
-factor_length width Absent = zero-le
-factor_length width (Present x) = rw (length-be_bytes width x) (omega arith)
+factor_length width None = zero-le
+factor_length width (Some x) = rw (length-be_bytes width x) (omega arith)
 
-pub factor_absent : (width at : ℕ) (s : List ℕ) → (at ≡ at + length (factor_bytes width Absent)) × (s ≡ put s at (factor_bytes width Absent))
+pub factor_absent : (width at : ℕ) (s : List ℕ) → (at ≡ at + length (factor_bytes width None)) × (s ≡ put s at (factor_bytes width None))
 unfolding factor_bytes
 factor_absent width at s = (sym (add-zero at), put_nothing s at)
 
 pub factor_present : (width at x : ℕ) (s : List ℕ) {after : List ℕ} → at + width ≤ length s → after ≡ put_be width s at x
-    → (at + width ≡ at + length (factor_bytes width (Present x))) × (after ≡ put s at (factor_bytes width (Present x)))
+    → (at + width ≡ at + length (factor_bytes width (Some x))) × (after ≡ put s at (factor_bytes width (Some x)))
 unfolding factor_bytes
 factor_present width at x s h e = (rw (length-be_bytes width x), e ∙ put_be-put width s at x h)
 

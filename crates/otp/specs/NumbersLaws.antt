@@ -67,11 +67,3 @@ number_grows i x h l = rw (add-one, pow-suc) (omega (arith, h, l))
 
 pub number_fits : (i x : ℕ) → i < 10 → x + 23 ≤ 23 * 10 ^ i → x * 10 + 207 < 2 ^ 64
 number_fits i x h l = let m : i ≤ 10 = omega (arith, h) in let p : 10 ^ i ≤ 10 ^ 10 = pow-le-pow_right (zero-lt-suc 9) m in omega (arith, l, p)
-
--- ---- ten to the n
-
-pub ten_fits : (n i : ℕ) {x : ℕ} → n ≤ 10 → i < n → x ≡ 10 ^ i → x * 10 < 2 ^ 64
-ten_fits n i h l e = let m : i ≤ 9 = omega (arith, h, l) in let p : 10 ^ i ≤ 10 ^ 9 = pow-le-pow_right (zero-lt-suc 9) m in omega (arith, e, p)
-
-pub ten_more : (i : ℕ) {x : ℕ} → x ≡ 10 ^ i → x * 10 ≡ 10 ^ (i + 1)
-ten_more i e = rw (add-one, pow-suc, e)

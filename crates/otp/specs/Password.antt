@@ -1,20 +1,22 @@
 -- The password, in the order of document 01, Part 2 (GM/T 0021-2012, 6.1 to 6.3).
-use Rattle.std.specs.Prelude.{ℕ, zero, suc, ◌+◌, ◌-◌, ◌*◌, ◌/◌, ◌%◌, ◌^◌, Bool, true, false, cond, ◌&&◌, ◌||◌, List, [], ◌∷◌, ◌++◌, length, take, drop, replicate, ◌==◌, nat_le, nat_lt}
+use Rattle.std.specs.Prelude.{ℕ, zero, suc, ◌+◌, ◌-◌, ◌*◌, ◌/◌, ◌%◌, ◌^◌, Bool, true, false, cond, ◌&&◌, ◌||◌, List, [], ◌∷◌, ◌++◌, length, take, drop, replicate, ◌==◌, nat_le, nat_lt, Option, Some, None, is_some}
 use Rattle.words.specs.Bytes.{be_at, be_bytes}
 use Rattle.words.specs.Lists.{all_within}
 use Rattle.words.specs.Codes.{done, bad_argument}
 use Rattle.words.specs.Output.{Left, stored}
 use Rattle.sm3.specs.Sm3.{sm3_of}
 use Rattle.sm4.specs.Sm4.{sm4_of}
-use Rattle.otp.specs.declared.Factor.{Factor}
-use Rattle.otp.specs.declared.Factor.TheVariants.{Absent, Present}
 
 -- ---- ID (6.1)
 
--- the time factor T has 8 bytes and the event factor C 4; an absent one takes no place
+-- a factor, the time T or the event count C, may be absent
+abbrev pub Factor : Type 0
+Factor = Option ℕ
+
+-- T has 8 bytes and C has 4; an absent one takes no place
 unfoldable pub factor_bytes : ℕ → Factor → List ℕ
-factor_bytes width Absent = []
-factor_bytes width (Present x) = be_bytes width x
+factor_bytes width None = []
+factor_bytes width (Some x) = be_bytes width x
 
 -- T, then C, then Q
 unfoldable pub id_of : Factor → Factor → List ℕ → List ℕ
@@ -84,13 +86,9 @@ password_of algorithm key time count challenge n = shown n (keyed algorithm key 
 
 -- ---- arguments in range
 
-abbrev pub is_given : Factor → Bool
-is_given Absent = false
-is_given (Present x) = true
-
 abbrev pub is_below : ℕ → Factor → Bool
-is_below limit Absent = true
-is_below limit (Present x) = nat_lt x limit
+is_below limit None = true
+is_below limit (Some x) = nat_lt x limit
 
 -- 4 to 32 bytes, each 21 to 7e hexadecimal; an empty challenge is none
 unfoldable pub challenge_ok : List ℕ → Bool
@@ -100,7 +98,7 @@ unfoldable pub arguments_ok : ℕ → List ℕ → Factor → Factor → List �
 arguments_ok algorithm key time count challenge n =
     (algorithm == algorithm_sm3 || algorithm == algorithm_sm4)
     && (nat_le 16 (length key) && nat_le (length key) 32)
-    && (is_given time || is_given count)
+    && (is_some time || is_some count)
     && is_below (2 ^ 32) count
     && challenge_ok challenge
     && (nat_le 6 n && nat_le n 10)

@@ -10,8 +10,7 @@ use Rattle.words.specs.Codes.{done, bad_argument}
 use Rattle.words.specs.OutputLaws.{stored-refusal, stored_short, stored-whole}
 use Rattle.words.specs.BoolLaws.{and_left, and_right, impossible}
 use Rattle.sm3.specs.Sm3.{sm3_of}
-use Rattle.otp.specs.declared.Factor.{Factor}
-use Rattle.otp.specs.Password.{challenge_ok, arguments_ok, id_of, filled, keyed, chained, cut, decimals, shown, password_of, password_answer, algorithm_sm3, algorithm_sm4}
+use Rattle.otp.specs.Password.{challenge_ok, arguments_ok, id_of, filled, keyed, chained, cut, decimals, shown, password_of, password_answer, algorithm_sm3, algorithm_sm4, Factor}
 
 -- the last of the digits left is stored
 pub decimals-last : (out : List ℕ) (left rest : ℕ) → 0 < left → left ≤ length out

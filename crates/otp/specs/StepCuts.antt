@@ -1,18 +1,16 @@
 -- The cut of a step's password without a challenge, by either cipher. Of SM4, ID is one block, and the cut the sum of the words of its last state.
-use Rattle.std.specs.Prelude.{ℕ, zero, suc, ◌+◌, ◌/◌, ◌%◌, ◌^◌, Bool, cond, List, [], ◌∷◌, ◌++◌}
+use Rattle.std.specs.Prelude.{ℕ, zero, suc, ◌+◌, ◌/◌, ◌%◌, ◌^◌, Bool, cond, List, [], ◌∷◌, ◌++◌, Some, None}
 use Rattle.sm3.specs.Sm3.{sm3_of}
 use Rattle.sm4.specs.Sm4.{linear, steps}
 use Rattle.sm4.specs.declared.round.Quad.{Quad}
-use Rattle.otp.specs.declared.Factor.{Factor}
-use Rattle.otp.specs.declared.Factor.TheVariants.{Absent, Present}
-use Rattle.otp.specs.Password.{id_of, filled, cut}
+use Rattle.otp.specs.Password.{id_of, filled, cut, Factor}
 
 -- a time token's step is its time factor T, an event token's its count C
 abbrev pub time_at : Bool → ℕ → Factor
-time_at timed s = cond timed (Present s) Absent
+time_at timed s = cond timed (Some s) None
 
 abbrev pub count_at : Bool → ℕ → Factor
-count_at timed s = cond timed Absent (Present s)
+count_at timed s = cond timed None (Some s)
 
 unfoldable pub step_id : Bool → ℕ → List ℕ
 step_id timed s = id_of (time_at timed s) (count_at timed s) []

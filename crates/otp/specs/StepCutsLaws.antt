@@ -1,14 +1,14 @@
 -- Lists of cuts, and SM4's: a step's cut under a key's round keys is the password's.
-use Rattle.std.specs.Prelude.{◌≡◌, ℕ, zero, suc, ◌+◌, ◌-◌, ◌*◌, ◌/◌, ◌%◌, ◌^◌, ◌<◌, ◌≤◌, Bool, true, false, List, [], ◌∷◌, ◌++◌, length, take, replicate, slice_index, refl}
+use Rattle.std.specs.Prelude.{◌≡◌, ℕ, zero, suc, ◌+◌, ◌-◌, ◌*◌, ◌/◌, ◌%◌, ◌^◌, ◌<◌, ◌≤◌, Bool, true, false, List, [], ◌∷◌, ◌++◌, length, take, replicate, slice_index, refl, Some, None, map}
+use Rattle.std.specs.List.{range_with_len}
+use Rattle.std.proofs.lemmas.Simd.{map-map}
 use Rattle.std.proofs.Common.{sym, ap, ap₂, ◌∙◌, append_assoc, append-nil, zero-add, add-zero, suc-add, not-suc-le-zero, le_of_suc-le-suc, arith, length-append, take_all}
 use Rattle.words.specs.Bytes.{be_bytes}
 use Rattle.words.specs.BytesLaws.{be_bytes-split, be_bytes-mod, length-be_bytes}
-use Rattle.sm4.specs.Sm4.{linear, steps, words_of, reversed, encrypt_with, round_keys, sm4_of, encrypt_words_answer}
+use Rattle.sm4.specs.Sm4.{linear, steps, words_of, reversed, encrypt_with, round_keys, sm4_of}
 use Rattle.sm4.specs.Sm4Laws.{QuadBelow, steps-below, linear-lt}
 use Rattle.sm4.specs.EncryptLaws.{output_words}
-use Rattle.sm4.specs.declared.chaining.CipherWords.{CipherWords}
 use Rattle.sm4.specs.declared.round.Quad.{Quad}
-use Rattle.otp.specs.declared.Factor.TheVariants.{Absent, Present}
 use Rattle.otp.specs.Password.{factor_bytes, id_of, filled, to_blocks, block_at, output_of, chained, word_sum, cut}
 use Rattle.otp.specs.Chain.{prepared}
 use Rattle.otp.specs.ChainLaws.{bytes-words}
@@ -51,45 +51,31 @@ cuts_from-append cut_at (suc n) m s =
     let e : s + 1 + n ≡ s + suc n = omega arith in
     rw (suc-add, cuts_from-append cut_at n m (s + 1), e)
 
-pub two_cuts : (cut_at : ℕ → ℕ) (s : ℕ) {a b : ℕ} → a ≡ cut_at s → b ≡ cut_at (s + 1) → a ∷ b ∷ [] ≡ cuts_from cut_at 2 s
+cuts_from-range : (cut_at : ℕ → ℕ) (n a s : ℕ) → map (λ l. cut_at (s + l)) (range_with_len a n) ≡ cuts_from cut_at n (s + a)
 unfolding cuts_from
-two_cuts cut_at s ea eb = rw (ea, eb)
+cuts_from-range cut_at zero a s = refl
+cuts_from-range cut_at (suc n) a s =
+    let e : s + (a + 1) ≡ s + a + 1 = omega arith in
+    rw (cuts_from-range cut_at n (a + 1) s, e)
 
-pub three_cuts : (cut_at : ℕ → ℕ) (s : ℕ) {a b c : ℕ} → a ≡ cut_at s → b ≡ cut_at (s + 1) → c ≡ cut_at (s + 2) → a ∷ b ∷ c ∷ [] ≡ cuts_from cut_at 3 s
-unfolding cuts_from
-three_cuts cut_at s ea eb ec = rw (ea, eb, ec) (let e : s + 2 ≡ s + 1 + 1 = omega arith in rw e)
-
-pub five_cuts : (cut_at : ℕ → ℕ) (s : ℕ) {a b c d e : ℕ}
-    → a ≡ cut_at s → b ≡ cut_at (s + 1) → c ≡ cut_at (s + 2) → d ≡ cut_at (s + 3) → e ≡ cut_at (s + 4) → a ∷ b ∷ c ∷ d ∷ e ∷ [] ≡ cuts_from cut_at 5 s
-unfolding cuts_from
-five_cuts cut_at s ea eb ec ed ee =
-    let f : s + 2 ≡ s + 1 + 1 = omega arith in
-    let g : s + 3 ≡ s + 1 + 1 + 1 = omega arith in
-    let h : s + 4 ≡ s + 1 + 1 + 1 + 1 = omega arith in
-    rw (ea, eb, ec, ed, ee, f, g, h)
-
--- one lane
-pub lane_cut : (keys : List ℕ) (timed : Bool) (s : ℕ) {x q : Quad} {r : ℕ} → x ≡ step_block timed s → q ≡ steps linear keys 32 x → r ≡ words_cut q → r ≡ cut_by keys timed s
+-- blocks side by side: the cuts of their last states
+pub lane_cuts : (keys : List ℕ) (timed : Bool) (n s : ℕ) {blocks states : List Quad} {r : List ℕ} → blocks ≡ map (λ l. step_block timed (s + l)) (range_with_len 0 n)
+    → states ≡ map (steps linear keys 32) blocks → r ≡ map words_cut states → r ≡ cuts_from (cut_by keys timed) n s
 unfolding cut_by
-lane_cut keys timed s ex eq er = er ∙ ap words_cut (eq ∙ ap (steps linear keys 32) ex)
-
--- three lanes
-module _ (keys : List ℕ) (timed : Bool) (s : ℕ) {x y z a b c : Quad} where
-  pub lane_cuts : {r : List ℕ} → x ≡ step_block timed s → y ≡ step_block timed (s + 1) → z ≡ step_block timed (s + 2)
-      → a ≡ steps linear keys 32 x → b ≡ steps linear keys 32 y → c ≡ steps linear keys 32 z
-      → r ≡ words_cut a ∷ words_cut b ∷ words_cut c ∷ [] → r ≡ cuts_from (cut_by keys timed) 3 s
-  lane_cuts ex ey ez ea eb ec er =
-      er ∙ three_cuts (cut_by keys timed) s (lane_cut keys timed s ex ea refl) (lane_cut keys timed (s + 1) ey eb refl) (lane_cut keys timed (s + 2) ez ec refl)
+lane_cuts keys timed n s eb es er =
+    let one = map-map (steps linear keys 32) (λ l. step_block timed (s + l)) (range_with_len 0 n) in
+    let two = map-map words_cut (λ l. steps linear keys 32 (step_block timed (s + l))) (range_with_len 0 n) in
+    er ∙ ap (map words_cut) (es ∙ ap (map (steps linear keys 32)) eb ∙ one) ∙ two ∙ cuts_from-range (cut_by keys timed) n 0 s ∙ rw add-zero
 
 -- ---- the block
 
 -- eight bytes, then eight zeros
-timed-bytes : (s : ℕ) → filled (id_of (Present s) Absent []) ≡ be_bytes 8 s ++ be_bytes 8 0
+timed-bytes : (s : ℕ) → filled (id_of (Some s) None []) ≡ be_bytes 8 s ++ be_bytes 8 0
 unfolding filled id_of factor_bytes be_bytes
 timed-bytes s = refl
 
 -- four bytes, then twelve zeros
-counted-bytes : (s : ℕ) → filled (id_of Absent (Present s) []) ≡ be_bytes 4 s ++ (be_bytes 4 0 ++ be_bytes 8 0)
+counted-bytes : (s : ℕ) → filled (id_of None (Some s) []) ≡ be_bytes 4 s ++ (be_bytes 4 0 ++ be_bytes 8 0)
 unfolding filled id_of factor_bytes be_bytes
 counted-bytes s = refl
 
@@ -140,12 +126,6 @@ reversed-cut q h = sym (words-cut (reversed q) (reversed-length q)) ∙ reversed
 
 step-below : (keys : List ℕ) (timed : Bool) (s : ℕ) → s < 2 ^ 64 → QuadBelow (steps linear keys 32 (step_block timed s))
 step-below keys timed s h = steps-below linear linear-lt keys 32 (step_block timed s) (block_below timed s h)
-
--- one block under round keys
-pub block_cut : (keys : List ℕ) (timed : Bool) (s : ℕ) {x : Quad} {c : CipherWords} {r : ℕ} → length keys ≡ 32 → s < 2 ^ 64
-    → x ≡ step_block timed s → c ≡ encrypt_words_answer keys x → r ≡ words_cut c.output → r ≡ cut_by keys timed s
-unfolding cut_by encrypt_words_answer
-block_cut keys timed s k h ex ec er = er ∙ rw (ec, k, ex) (reversed-words-cut (steps linear keys 32 (step_block timed s)) (step-below keys timed s h))
 
 -- the law: a step's cut is that of the definition
 pub step_cut_lem : (key : List ℕ) (timed : Bool) (s : ℕ) → s < 2 ^ 64 → cut (chained key (filled (step_id timed s))) ≡ cut_by (prepared key) timed s

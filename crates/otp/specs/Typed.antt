@@ -1,8 +1,7 @@
 -- A password as it is typed (document 01, "What a turned-down call says", 9005), and as a number.
-use Rattle.std.specs.Prelude.{ℕ, Bool, cond, ◌&&◌, List, length, nat_le}
+use Rattle.std.specs.Prelude.{ℕ, Bool, cond, ◌&&◌, List, length, nat_le, Option, Some, None}
 use Rattle.words.specs.Lists.{all_within}
 use Rattle.otp.specs.declared.typed.Password.{Password}
-use Rattle.otp.specs.declared.typed.Typed.{Typed}
 use Rattle.otp.specs.Password.{decimals}
 use Rattle.otp.specs.Numbers.{number_from}
 
@@ -17,8 +16,8 @@ password_ok s = count_ok (length s) && all_within 0x30 0x39 s
 abbrev pub as_password : List ℕ → Password
 as_password s = record { digits = length s; number = number_from 0 s }
 
-unfoldable pub typed_of : List ℕ → Typed
-typed_of s = cond (password_ok s) (Typed.Is (as_password s)) Typed.Bad
+unfoldable pub typed_of : List ℕ → Option Password
+typed_of s = cond (password_ok s) (Some (as_password s)) None
 
 -- its digits, with leading zeros
 unfoldable pub digits_of : Password → List ℕ

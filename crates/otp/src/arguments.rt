@@ -1,25 +1,16 @@
 // Whether the arguments are in range (document 01, Part 2).
 ghost use Rattle.std.specs.Prelude.{◌≡◌};
-ghost use Rattle.otp.specs.Password.{is_given, is_below, challenge_ok, arguments_ok};
+ghost use Rattle.otp.specs.Password.{is_below, challenge_ok, arguments_ok};
 
 use crate::{Factor, SM3, SM4};
 use words::bytes::within;
-
-fn is_given(factor: Factor) -> bool
-    ensures { result ≡ is_given factor }
-{
-    match factor {
-        Factor::Absent => false,
-        Factor::Present(_) => true,
-    }
-}
 
 fn is_below(limit: u64, factor: Factor) -> bool
     ensures { result ≡ is_below limit factor }
 {
     match factor {
-        Factor::Absent => true,
-        Factor::Present(x) => x < limit,
+        None => true,
+        Some(x) => x < limit,
     }
 }
 
@@ -44,7 +35,7 @@ pub fn arguments_ok(
     let n = key.len();
     ((algorithm == SM3) | (algorithm == SM4))
         & ((16 <= n) & (n <= 32))
-        & (is_given(time) | is_given(count))
+        & (time.is_some() | count.is_some())
         & is_below(0x1_0000_0000, count)
         & challenge_ok(challenge)
         & ((6 <= digits) & (digits <= 10))

@@ -1,18 +1,10 @@
 // The SM4 way (6.2.3): block by block, each output added to the next block. Between two blocks an output stays four words.
-ghost use Rattle.std.specs.Prelude.{◌≡◌, ◌+◌, ◌-◌, ◌*◌, ◌^◌, ◌<◌, ◌≤◌, length, if◌then◌else◌, nat_lt};
+ghost use Rattle.std.specs.Prelude.{◌≡◌, ◌+◌, ◌-◌, ◌*◌, ◌^◌, ◌<◌, ◌≤◌, length};
 ghost use Rattle.sm4.specs.Sm4.{words_of};
 ghost use Rattle.otp.specs.Chain.{chain, words_sum};
 
 use sm4::round::words_of;
 use sm4::{Quad, encrypt_words};
-use std::num::wrapping_add_u64 as add;
-
-// The carry out of a sum that wrapped: it is then below each of its terms.
-fn carry(sum: u64, term: u64) -> u64
-    ensures { result ≡ (if nat_lt sum term then 1 else 0) }
-{
-    if sum < term { 1 } else { 0 }
-}
 
 // Two words as one number.
 fn joined(high: u32, low: u32) -> u64
@@ -25,15 +17,15 @@ fn joined(high: u32, low: u32) -> u64
 fn block_sum(p: Quad, q: Quad) -> Quad
     ensures { result ≡ words_sum p q }
 {
-    let low = joined(p.c, p.d);
-    let low_sum = add(low, joined(q.c, q.d));
-    let high = add(joined(p.a, p.b), joined(q.a, q.b));
-    let high_sum = add(high, carry(low_sum, low));
+    let (low, carry) = joined(p.c, p.d).overflowing_add(joined(q.c, q.d));
+    let high = joined(p.a, p.b)
+        .wrapping_add(joined(q.a, q.b))
+        .wrapping_add(carry as u64);
     Quad {
-        a: (high_sum / 0x1_0000_0000) as u32,
-        b: (high_sum % 0x1_0000_0000) as u32,
-        c: (low_sum / 0x1_0000_0000) as u32,
-        d: (low_sum % 0x1_0000_0000) as u32,
+        a: (high / 0x1_0000_0000) as u32,
+        b: (high % 0x1_0000_0000) as u32,
+        c: (low / 0x1_0000_0000) as u32,
+        d: (low % 0x1_0000_0000) as u32,
     }
 }
 
@@ -46,13 +38,10 @@ pub(crate) fn chain(keys: &[u32], s: &[u8], first: Quad, blocks: usize) -> Quad
     ensures { result ≡ words_of (chain keys.now s.now (blocks - 1)) }
 {
     let mut out = first;
-    let mut i = 1;
-    while i < blocks {
+    for i in 1..blocks {
         let from = 16 * i;
-        let to = from + 16;
-        let sum = block_sum(out, words_of(&s[from..to]));
-        out = encrypt_words(keys, sum).output;
-        i += 1;
+        let sum = block_sum(out, words_of(&s[from..from + 16]));
+        out = encrypt_words(keys, sum).unwrap();
     }
     out
 }

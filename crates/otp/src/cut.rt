@@ -3,13 +3,12 @@ ghost use Rattle.std.specs.Prelude.{◌≡◌, ◌+◌, ◌%◌, ◌^◌, ◌≤
 ghost use Rattle.otp.specs.Password.{decimals};
 
 use sm4::Quad;
-use std::num::wrapping_add_u32 as add;
 
 // The sum of the words of an output of four, without the carry.
 pub(crate) fn cut_words(w: Quad) -> u32
     ensures { result ≡ (w.a + w.b + w.c + w.d) % 2 ^ 32 }
 {
-    add(add(add(w.a, w.b), w.c), w.d)
+    w.a.wrapping_add(w.b).wrapping_add(w.c).wrapping_add(w.d)
 }
 
 // The last n decimal digits of x, at the front of out. Ten to the n is never formed.
@@ -17,11 +16,9 @@ pub(crate) fn put_decimals(x: u32, n: usize, out: &mut [u8])
     requires { n ≤ length out.old }
     ensures { out.new ≡ decimals n x ++ drop n out.old }
 {
-    let mut left = n;
     let mut rest = x;
-    while 0 < left {
-        left -= 1;
-        out[left] = 48 + (rest % 10) as u8;
-        rest = rest / 10;
+    for i in (0..n).rev() {
+        out[i] = b'0' + (rest % 10) as u8;
+        rest /= 10;
     }
 }

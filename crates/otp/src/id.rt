@@ -13,8 +13,8 @@ fn put_factor(out: &mut [u8], at: usize, width: usize, factor: Factor) -> usize
     ensures out_after { out.new ≡ put out.old at (factor_bytes width factor) }
 {
     match factor {
-        Factor::Absent => at,
-        Factor::Present(x) => {
+        None => at,
+        Some(x) => {
             put_be(out, at, width, x);
             at + width
         }

@@ -13,27 +13,24 @@ mod prepared;
 mod steps;
 pub mod typed;
 
-ghost use Rattle.std.specs.Prelude.{◌≡◌};
+ghost use Rattle.std.specs.Prelude.{◌≡◌, eqb, is_ok};
+ghost use Rattle.words.specs.Codes.{done};
 ghost use Rattle.otp.specs.Password.{password_answer};
 
 pub use arguments::{arguments_ok, challenge_ok};
 use cut::put_decimals;
 use once::truncated_once;
-use words::codes::{BAD_ARGUMENT, DONE};
+use words::codes::BadArgument;
 
 // The algorithms (document 01, Part 4).
 pub const SM3: u8 = 3;
 
 pub const SM4: u8 = 4;
 
-// A factor of the password, the time T or the event count C (GM/T 0021, 6.1): present with its number, or absent.
-#[derive(Clone, Copy)]
-pub enum Factor {
-    Absent,
-    Present(u64),
-}
+// A factor of the password, the time T or the event count C (GM/T 0021, 6.1), which may be absent.
+pub type Factor = Option<u64>;
 
-// The password of the given factors, at the front of out, or the code of a bad argument.
+// The password of the given factors, at the front of out; of bad arguments, and of an output that is too short, none.
 pub fn password(
     algorithm: u8,
     key: &[u8],
@@ -42,17 +39,17 @@ pub fn password(
     challenge: &[u8],
     digits: usize,
     out: &mut [u8],
-) -> u16
-    ensures value { result ≡ (password_answer algorithm key.now time count challenge.now digits out.old).code }
+) -> Result<(), BadArgument>
+    ensures value { is_ok result ≡ eqb (password_answer algorithm key.now time count challenge.now digits out.old).code done }
     ensures out_after { out.new ≡ (password_answer algorithm key.now time count challenge.now digits out.old).out }
 {
     if !arguments_ok(algorithm, key, time, count, challenge, digits) {
-        return BAD_ARGUMENT;
+        return Err(BadArgument);
     }
     if out.len() < digits {
-        return BAD_ARGUMENT;
+        return Err(BadArgument);
     }
     let sum = truncated_once(algorithm, key, time, count, challenge);
     put_decimals(sum, digits, out);
-    DONE
+    Ok(())
 }

@@ -1,15 +1,16 @@
 // The cuts of consecutive steps under one key: how many are made side by side is decided here, and none is made beyond those asked for.
-ghost use Rattle.std.specs.Prelude.{◌≡◌, ◌+◌, ◌^◌, ◌<◌, ◌≤◌, min, length};
+ghost use Rattle.std.specs.Prelude.{◌≡◌, ◌+◌, ◌^◌, ◌<◌, ◌≤◌, length};
 ghost use Rattle.otp.specs.Password.{algorithm_sm3};
+ghost use Rattle.otp.specs.Chain.{prepared};
 ghost use Rattle.otp.specs.StepCuts.{cut_by, cuts_from};
 ghost use Rattle.otp.specs.CutLists.{step_cut, Ready, Put};
 
 use crate::SM3;
-use crate::cuts::{first_cut, first_cuts, five_cuts, one_cut, three_cuts, two_cuts};
+use crate::cuts::{cuts, first_cuts};
 use crate::prepared::{ciphered, count_at, hashed, time_at};
 use crate::steps::hashed_cuts;
 use sm4::round_keys;
-use words::word::copy_words;
+use words::bytes::copy;
 
 // How a token's steps are cut: by which algorithm, and whether a step is a time T or a count C.
 #[derive(Clone, Copy)]
@@ -20,12 +21,6 @@ pub struct Maker {
 
 // The words that a key is made ready to: SM4's round keys; SM3 needs none.
 pub const READY: usize = 32;
-
-fn smaller(a: usize, b: usize) -> usize
-    ensures { result ≡ min a b }
-{
-    if a < b { a } else { b }
-}
 
 // By SM3: four side by side, three or two, or one; with a challenge one.
 fn put_hashed(maker: Maker, key: &[u8], challenge: &[u8], s: u64, out: &mut [u32]) -> usize
@@ -39,13 +34,26 @@ fn put_hashed(maker: Maker, key: &[u8], challenge: &[u8], s: u64, out: &mut [u32
 {
     let timed = maker.timed;
     if (challenge.len() == 0) & (2 <= out.len()) {
-        let n = smaller(4, out.len());
+        let n = out.len().min(4);
         let cuts = hashed_cuts(key, timed, s, n);
-        copy_words(&cuts[0..n], out);
+        copy(&cuts[0..n], out);
         return n;
     }
     out[0] = hashed(key, time_at(timed, s), count_at(timed, s), challenge);
     1
+}
+
+// Puts the cuts of N steps at the front of out, under round keys.
+fn put_side_by_side<const N: usize>(keys: &[u32], timed: bool, s: u64, out: &mut [u32]) -> usize
+    requires keys_len { length keys.now ≡ 32 }
+    requires n_bound { N ≤ 5 }
+    requires s_bound { s < 2 ^ 63 }
+    requires out_room { N ≤ length out.old }
+    ensures value { result ≡ N }
+    ensures put { Put (cut_by keys.now timed) result s out.old out.new }
+{
+    copy(&cuts::<N>(keys, timed, s), out);
+    N
 }
 
 // By SM4 without a challenge: five side by side, three, two, or one.
@@ -57,20 +65,12 @@ fn put_keyed(keys: &[u32], timed: bool, s: u64, out: &mut [u32]) -> usize
     ensures upper_bound { result ≤ 5 }
     ensures put { Put (cut_by keys.now timed) result s out.old out.new }
 {
-    if 5 <= out.len() {
-        copy_words(&five_cuts(keys, timed, s), out);
-        return 5;
+    match out.len() {
+        1 => put_side_by_side::<1>(keys, timed, s, out),
+        2 => put_side_by_side::<2>(keys, timed, s, out),
+        3 | 4 => put_side_by_side::<3>(keys, timed, s, out),
+        _ => put_side_by_side::<5>(keys, timed, s, out),
     }
-    if 3 <= out.len() {
-        copy_words(&three_cuts(keys, timed, s), out);
-        return 3;
-    }
-    if 2 <= out.len() {
-        copy_words(&two_cuts(keys, timed, s), out);
-        return 2;
-    }
-    out[0] = one_cut(keys, timed, s);
-    1
 }
 
 // Puts the cuts of some steps from s on at the front of out, and answers how many: by SM4 with a challenge one.
@@ -101,6 +101,27 @@ fn put_some(
     put_keyed(ready, timed, s, out)
 }
 
+// The same under a fresh key, which is made ready on the way.
+fn put_fresh<const N: usize>(
+    key: &[u8],
+    timed: bool,
+    s: u64,
+    ready: &mut [u32],
+    out: &mut [u32],
+) -> usize
+    requires in_bounds { 16 ≤ length key.now }
+    requires n_bound { N ≤ 5 }
+    requires s_bound { s < 2 ^ 63 }
+    requires ready_len { length ready.old ≡ 32 }
+    requires out_room { N ≤ length out.old }
+    ensures value { result ≡ N }
+    ensures put { Put (cut_by (prepared key.now) timed) result s out.old out.new }
+    ensures ready { ready.new ≡ prepared key.now }
+{
+    copy(&first_cuts::<N>(key, timed, s, ready), out);
+    N
+}
+
 // Makes a fresh key ready, and puts the cuts that are made beside it: by SM4 without a challenge three, or one. Answers how many.
 fn put_first(
     maker: Maker,
@@ -121,16 +142,13 @@ fn put_first(
         return 0;
     }
     if 0 < challenge.len() {
-        let keys = round_keys(&key[0..16]).words;
-        copy_words(&keys, ready);
+        copy(&round_keys(&key[0..16]).unwrap(), ready);
         return 0;
     }
-    if 3 <= out.len() {
-        copy_words(&first_cuts(key, maker.timed, s, ready), out);
-        return 3;
+    if out.len() < 3 {
+        return put_fresh::<1>(key, maker.timed, s, ready, out);
     }
-    out[0] = first_cut(key, maker.timed, s, ready);
-    1
+    put_fresh::<3>(key, maker.timed, s, ready, out)
 }
 
 // Puts the cuts of the steps from s on, one into each place of out, under a key made ready.
@@ -141,6 +159,7 @@ pub fn put_cuts(maker: Maker, key: &[u8], ready: &[u32], challenge: &[u8], s: u6
     requires out_bound { s + length out.old < 2 ^ 63 }
     ensures { out.new ≡ cuts_from (step_cut maker.algorithm key.now challenge.now maker.timed) (length out.old) s }
 {
+    // A `while`, since each turn puts another number of cuts.
     let mut i = 0;
     while i < out.len() {
         i += put_some(maker, key, ready, challenge, s + i as u64, &mut out[i..]);

@@ -1,16 +1,6 @@
 // Passwords as numbers: what digits show, and how many numbers they have.
-ghost use Rattle.std.specs.Prelude.{◌≡◌, ◌-◌, ◌^◌, ◌≤◌, length};
+ghost use Rattle.std.specs.Prelude.{◌≡◌, ◌^◌, ◌≤◌, length};
 ghost use Rattle.otp.specs.Numbers.{number_from};
-
-fn digit(b: u8) -> u64
-    ensures value { result ≡ b - 48 }
-    ensures upper_bound { result ≤ 207 }
-{
-    if b < 48 {
-        return 0;
-    }
-    (b - 48) as u64
-}
 
 // The number that ASCII digits show, for callers that have looked at each.
 pub(crate) fn number_shown(digits: &[u8]) -> u64
@@ -18,10 +8,8 @@ pub(crate) fn number_shown(digits: &[u8]) -> u64
     ensures { result ≡ number_from 0 digits.now }
 {
     let mut x: u64 = 0;
-    let mut i = 0;
-    while i < digits.len() {
-        x = x * 10 + digit(digits[i]);
-        i += 1;
+    for b in digits {
+        x = x * 10 + b.saturating_sub(b'0') as u64;
     }
     x
 }
@@ -31,11 +19,5 @@ pub fn ten_to(n: usize) -> u64
     requires { n ≤ 10 }
     ensures { result ≡ 10 ^ n }
 {
-    let mut x: u64 = 1;
-    let mut i = 0;
-    while i < n {
-        x = x * 10;
-        i += 1;
-    }
-    x
+    10u64.pow(n as u32)
 }

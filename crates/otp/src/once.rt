@@ -17,7 +17,7 @@ fn ciphered_once(key: &[u8], time: Factor, count: Factor, challenge: &[u8]) -> u
 {
     let mut buffer = [0u8; 48];
     let end = put_id(&mut buffer, 0, time, count, challenge);
-    let first = first_block(&key[0..16], &buffer[0..16]);
+    let first = first_block(&key[0..16], &buffer[0..16]).unwrap();
     let keys = first.keys;
     let output = first.output;
     cut_words(chain(&keys, &buffer, output, (end + 15) / 16))

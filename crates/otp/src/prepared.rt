@@ -17,21 +17,13 @@ use sm4::round::words_of;
 pub(crate) fn time_at(timed: bool, s: u64) -> Factor
     ensures { result ≡ time_at timed s }
 {
-    if timed {
-        Factor::Present(s)
-    } else {
-        Factor::Absent
-    }
+    timed.then_some(s)
 }
 
 pub(crate) fn count_at(timed: bool, s: u64) -> Factor
     ensures { result ≡ count_at timed s }
 {
-    if timed {
-        Factor::Absent
-    } else {
-        Factor::Present(s)
-    }
+    (!timed).then_some(s)
 }
 
 // The SM3 way (6.2.2), cut.
@@ -60,6 +52,6 @@ pub(crate) fn ciphered(
 {
     let mut buffer = [0u8; 48];
     let end = put_id(&mut buffer, 0, time, count, challenge);
-    let first = encrypt_words(keys, words_of(&buffer[0..16])).output;
+    let first = encrypt_words(keys, words_of(&buffer[0..16])).unwrap();
     cut_words(chain(keys, &buffer, first, (end + 15) / 16))
 }

@@ -59,8 +59,7 @@ fn lane_word(at: usize, timed: bool, s: u64, n: usize, i: usize, l: usize) -> u3
 }
 
 // Puts word i of the lanes' numbers, which begin at byte at, each into its message.
-fn put_word(w: &mut [u32], at: usize, timed: bool, s: u64, n: usize, i: usize)
-    requires w_len { length w.old ≡ 272 }
+fn put_word(w: &mut [u32; 272], at: usize, timed: bool, s: u64, n: usize, i: usize)
     requires at_bound { at ≤ 32 }
     requires s_bound { s < 2 ^ 63 }
     requires n_bound { n ≤ 4 }
@@ -75,8 +74,7 @@ fn put_word(w: &mut [u32], at: usize, timed: bool, s: u64, n: usize, i: usize)
 }
 
 // Puts the lanes' numbers from byte at on, each into its message.
-fn put_steps(w: &mut [u32], at: usize, timed: bool, s: u64, n: usize)
-    requires w_len { length w.old ≡ 272 }
+fn put_steps(w: &mut [u32; 272], at: usize, timed: bool, s: u64, n: usize)
     requires at_bound { at ≤ 32 }
     requires s_bound { s < 2 ^ 63 }
     requires n_bound { n ≤ 4 }

@@ -12,25 +12,18 @@ pub struct Password {
     pub number: u64,
 }
 
-// What was typed: a password, or bytes that are none.
-#[derive(Clone, Copy)]
-pub enum Typed {
-    Is(Password),
-    Bad,
-}
-
 // A password has 6 to 10 ASCII digits; bytes of another length are not read.
-pub fn password_of(bytes: &[u8]) -> Typed
+pub fn password_of(bytes: &[u8]) -> Option<Password>
     ensures { result ≡ typed_of bytes.now }
 {
     let n = bytes.len();
     if !((6 <= n) & (n <= 10)) {
-        return Typed::Bad;
+        return None;
     }
     if !within(bytes, 0x30, 0x39) {
-        return Typed::Bad;
+        return None;
     }
-    Typed::Is(Password {
+    Some(Password {
         digits: n as u8,
         number: number_shown(bytes),
     })

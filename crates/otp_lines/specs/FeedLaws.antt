@@ -1,97 +1,96 @@
 -- What each function of the code returns, over what the functions that it calls ensure.
-use Rattle.std.specs.Prelude.{ℕ, ◌+◌, ◌-◌, ◌*◌, ◌≤◌, ◌<◌, ◌≡◌, Bool, false, length, drop, set, replicate}
+use Rattle.std.specs.Prelude.{ℕ, Option, Some, None, nat_le, ◌+◌, ◌-◌, ◌*◌, ◌≤◌, ◌<◌, ◌≡◌, Bool, false, length, drop, set, replicate}
 use Rattle.std.proofs.Math.Path.{refl}
-use Rattle.std.proofs.Common.{sym, ap, ◌∙◌, add-one, arith, length-append, length-drop, take-append-drop, length-take-le, take-add, take_all, take-suc-set, take-take}
+use Rattle.std.proofs.Common.{sym, ap, ◌∙◌, add-one, arith, leb-false, length-append, length-drop, take-append-drop, length-take-le, take-add, take_all, take-suc-set, take-take}
 use mathlib.Core.List.{List, [], ◌∷◌, ◌++◌, flatten, append_assoc, append-nil}
 use Rattle.std.proofs.Math.ListN.{take}
 use Rattle.std.proofs.lemmas.List.{length-replicate}
 use Rattle.std.proofs.Math.Seq.{take-append-add, take-append_seam, take-length}
 use Rattle.words.specs.Search.{index_of, slice}
-use Rattle.password_lines.specs.Line.{line_answer, refusal, printed_of}
-use Rattle.password_lines.specs.declared.Printed.{Printed}
+use Rattle.password_lines.specs.Line.{line_answer, refusal}
 use Rattle.password_lines.specs.LineLaws.{long-line, answer-length}
-use Rattle.lines.specs.Lines.{line_feed, behind, cut, last, Held, Put}
+use Rattle.lines.specs.Lines.{line_feed, behind, cut, last, kept, Put}
 use Rattle.lines.specs.LinesLaws.{pieces_do_not_matter, cut_line, cut-rest}
-use Rattle.lines.specs.BufferLaws.{held_nothing, held_none, held-some}
-use Rattle.words.specs.BoolLaws.{clash}
-use Rattle.otp_lines.specs.Stream.{answered, fed, finished, Follows, Leaves, Answers}
+use Rattle.words.specs.BoolLaws.{by-test, impossible, clash}
+use Rattle.otp_lines.specs.Stream.{answered, fed, finished, longest, Follows, Leaves, Answers}
 use Rattle.otp_lines.specs.StreamLaws.{answered_join}
 
 -- ---- the output
 
--- the answer's text in what `answer` gives
-printed-text : (line : List ℕ) {r : Printed} → r ≡ printed_of (line_answer line) → (r.len ≡ length (line_answer line)) × (take r.len r.bytes ≡ line_answer line)
-unfolding printed_of
-printed-text line e = rw e (refl, take-append_seam (line_answer line) (replicate (10 - length (line_answer line)) 0))
+-- an answer has room in ten bytes
+pub padded-length : (line : List ℕ) {text padded : List ℕ} → text ≡ line_answer line → padded ≡ text ++ replicate (10 - length text) 0
+    → (length padded ≡ 10) × (length text ≤ 10)
+padded-length line answer zeros =
+    let l : length (line_answer line) ≤ 10 = (answer-length line).1 in
+    rw (zeros, answer, length-append, length-replicate) (omega arith)
 
-pub printed-length : (line : List ℕ) {r : Printed} → r ≡ printed_of (line_answer line) → (r.len ≤ 10) × (length r.bytes ≡ 10)
-unfolding printed_of
-printed-length line e = let l = answer-length line in rw (e, length-append, length-replicate) (omega arith)
-
--- the bytes were put with what stands behind the answer, and the line feed upon that
-module _ (s : List ℕ) (at : ℕ) (line : List ℕ) {r : Printed} {after : List ℕ} {end : ℕ} (answer : r ≡ printed_of (line_answer line))
-    (room : at ≤ length s) (bytes : Put s at r.bytes after end) where
-  text-put-front : take (at + r.len) after ≡ take at s ++ line_answer line
+-- the bytes were put with the zeros behind the answer, and the line feed upon the first of those
+module _ (s : List ℕ) (at : ℕ) (line : List ℕ) {text padded after : List ℕ} {end : ℕ} (answer : text ≡ line_answer line)
+    (zeros : padded ≡ text ++ replicate (10 - length text) 0) (room : at ≤ length s) (bytes : Put s at padded after end) where
+  text-put-front : take (at + length text) after ≡ take at s ++ line_answer line
   text-put-front =
-      let n = printed-length line answer in
       let p = bytes.place in
-      let l : at + r.len ≤ end = omega arith in
+      let n : length padded ≡ length text + (10 - length text) = rw (zeros, length-append, length-replicate) refl in
+      let l : at + length text ≤ end = omega arith in
       let e = length-take-le at s room in
-      sym (take-take (at + r.len) end after l) ∙ rw (bytes.front, ← (printed-text line answer).1) (rw e at (take-append-add (take at s) r.bytes r.len))
+      let front : take (length text) padded ≡ text = rw zeros (take-append_seam text (replicate (10 - length text) 0)) in
+      sym (take-take (at + length text) end after l)
+      ∙ rw (bytes.front, ← answer) (rw e at (take-append-add (take at s) padded (length text)) ∙ ap (λ (t : List ℕ). take at s ++ t) front)
 
-  pub answer-put : at + r.len < length after → Put s at (answered line) (set after (at + r.len) line_feed) (at + r.len + 1)
-  answer-put l =
-      let n = (printed-text line answer).0 in
+  pub answer-put : {n : ℕ} → n ≡ length text → at + n < length after → Put s at (answered line) (set after (at + n) line_feed) (at + n + 1)
+  answer-put {n} e l =
+      let same = ap length answer in
+      let front : take (at + n) after ≡ take at s ++ line_answer line = rw e text-put-front in
       record {
         place = rw length-append (omega arith);
-        front = rw (add-one, take-suc-set, text-put-front) (append_assoc (take at s) (line_answer line) (line_feed ∷ []));
+        front = rw (add-one, take-suc-set, front) (append_assoc (take at s) (line_answer line) (line_feed ∷ []));
       }
 
 -- ---- the pending line
 
-module _ (line : List ℕ) (n : ℕ) (s : List ℕ) (at : ℕ) {after : List ℕ} {end : ℕ} (p : List ℕ) (held : Held line n p) where
-  pub pending-long : length line ≡ 256 → 256 < n → Put s at (refusal ++ (line_feed ∷ [])) after end → Put s at (answered p) after end
-  pending-long size l d = rw (long-line p (omega (arith, size, held.long (omega (arith, size))))) d
+-- what is not kept is too long
+pub pending-long : (s : List ℕ) (at : ℕ) {after : List ℕ} {end : ℕ} (p : List ℕ) → None ≡ kept longest p
+    → Put s at (refusal ++ (line_feed ∷ [])) after end → Put s at (answered p) after end
+pending-long s at p held d =
+    by-test (nat_le (length p) 256)
+    (λ t. let z : None ≡ Some p = rw t at held in impossible (cc))
+    (λ f. rw (long-line p (leb-false (length p) 256 f)) d)
 
-  pub pending-short : length line ≡ 256 → n ≤ 256 → Put s at (answered (take (n - 0) (drop 0 line))) after end → Put s at (answered p) after end
-  pending-short size l d = let z : n - 0 ≡ n = omega arith in rw (held.short (omega (arith, size))) (rw z at d)
+-- what is kept is the line
+pub kept-is : {line : List ℕ} (p : List ℕ) → Some line ≡ kept longest p → line ≡ p
+kept-is {line} p held =
+    by-test (nat_le (length p) 256)
+    (λ t. let e : Some line ≡ Some p = rw t at held in cc)
+    (λ f. let z : Some line ≡ None = rw f at held in impossible (cc))
 
-pub line-begun : (line : List ℕ) (n : ℕ) (part s : List ℕ) (at : ℕ) {after : List ℕ} {end : ℕ} (p : List ℕ) → Held line n p → n ≡ 0
-    → Put s at (answered part) after end → Put s at (answered (p ++ part)) after end
-line-begun line n part s at p held z d = rw (held_none line n p held z) d
-
-pub finish_none : (line : List ℕ) (n : ℕ) (p : List ℕ) → Held line n p → n ≡ 0 → [] ≡ finished p
+pub finish_none : (p : List ℕ) → Some [] ≡ kept longest p → [] ≡ finished p
 unfolding last flatten
-finish_none line n p held z = rw (held_none line n p held z)
+finish_none p held = rw (← kept-is p held)
 
-pub finish_line : (line : List ℕ) (n : ℕ) (s : List ℕ) {after : List ℕ} {end : ℕ} (p : List ℕ) → Held line n p → (n ≡ 0 → ⊥)
+pub finish_line : {line : Option (List ℕ)} (s : List ℕ) {after : List ℕ} {end : ℕ} (p : List ℕ) → line ≡ kept longest p → (line ≡ Some [] → ⊥)
     → Put s 0 (answered p) after end → take end after ≡ finished p
 unfolding last flatten
-finish_line line n s [] held z d = absurd (z (held-some line n held))
-finish_line line n s (b ∷ p) held z d = rw (append-nil (answered (b ∷ p))) d.front
+finish_line s [] held z d = absurd (z held)
+finish_line s (b ∷ p) held z d = rw (append-nil (answered (b ∷ p))) d.front
 
 -- ---- a piece of the input
 
 -- what the loop of `feed` keeps: the piece up to at is fed, and end is where the next line feed stands
-pub record Feeding (line₀ : List ℕ) (n : ℕ) (piece out₀ line out : List ℕ) (held written at end : ℕ) : Type 0 where
-  pub size : length line ≡ 256
-  pub kept : length out ≡ length out₀
-  pub marked : held ≤ 257
+pub record Feeding (line₀ : Option (List ℕ)) (piece out₀ : List ℕ) (line : Option (List ℕ)) (out : List ℕ) (written at end : ℕ) : Type 0 where
+  pub same_size : length out ≡ length out₀
   pub room : written ≤ 11 * at
   pub start : at ≤ end
   pub within : end ≤ length piece
   pub found : end ≡ at + index_of line_feed (slice at (length piece) piece)
-  pub follows : Follows line₀ n (take at piece) line held (take written out)
+  pub follows : Follows line₀ (take at piece) line (take written out)
 
-module _ (line₀ : List ℕ) (n : ℕ) (piece out₀ : List ℕ) where
-  pub feeding_begin : {end : ℕ} → length line₀ ≡ 256 → n ≤ 257 → end ≡ 0 + index_of line_feed (slice 0 (length piece) piece) → end ≤ length piece
-      → Feeding line₀ n piece out₀ line₀ out₀ n 0 0 end
+module _ (line₀ : Option (List ℕ)) (piece out₀ : List ℕ) where
+  pub feeding_begin : {end : ℕ} → end ≡ 0 + index_of line_feed (slice 0 (length piece) piece) → end ≤ length piece
+      → Feeding line₀ piece out₀ line₀ out₀ 0 0 end
   unfolding cut flatten
-  feeding_begin l m e w =
+  feeding_begin e w =
       record {
-        size = l;
-        kept = refl;
-        marked = m;
+        same_size = refl;
         room = omega arith;
         start = omega arith;
         within = w;
@@ -99,7 +98,7 @@ module _ (line₀ : List ℕ) (n : ℕ) (piece out₀ : List ℕ) where
         follows = record { pending = λ p h. h; printed = λ p h. refl };
       }
 
-  module _ (line out : List ℕ) (held written at end : ℕ) (feeding : Feeding line₀ n piece out₀ line out held written at end) where
+  module _ (line : Option (List ℕ)) (out : List ℕ) (written at end : ℕ) (feeding : Feeding line₀ piece out₀ line out written at end) where
     index_is : end ≡ at + index_of line_feed (drop at piece)
     unfolding slice
     index_is = rw take-length at feeding.found
@@ -140,31 +139,29 @@ module _ (line₀ : List ℕ) (n : ℕ) (piece out₀ : List ℕ) where
         (ap (cut p) (sym (take-append-drop at piece)) ∙ pieces_do_not_matter p (take at piece) (drop at piece)
         ∙ rw (cut-rest (cut p (take at piece)).pending (drop at piece) (omega arith), append-nil (cut p (take at piece)).whole))
 
-    pub feeding_line : {line' out' : List ℕ} {r next : ℕ} → end < length piece
-        → length line' ≡ length line → length out' ≡ length out → r ≤ written + 11
-        → ((p : List ℕ) → Held line held p → Put out written (answered (p ++ take (end - at) (drop at piece))) out' r)
+    pub feeding_line : {line' : Option (List ℕ)} {out' : List ℕ} {r next : ℕ} → end < length piece
+        → length out' ≡ length out → r ≤ written + 11 → line' ≡ kept longest []
+        → ((p : List ℕ) → line ≡ kept longest p → Put out written (answered (p ++ take (end - at) (drop at piece))) out' r)
         → next ≡ end + 1 + index_of line_feed (slice (end + 1) (length piece) piece) → next ≤ length piece
-        → Feeding line₀ n piece out₀ line' out' 0 r (end + 1) next
-    feeding_line {line'} l size kept room answer found within =
+        → Feeding line₀ piece out₀ line' out' r (end + 1) next
+    feeding_line l size kept none answer found within =
         record {
-          size = size ∙ feeding.size;
-          kept = kept ∙ feeding.kept;
-          marked = omega arith;
+          same_size = size ∙ feeding.same_size;
           room = omega (arith, feeding.room, feeding.start);
           start = omega arith;
           within = within;
           found = found;
           follows =
               record {
-                pending = λ p h. rw (cut_up p l) (held_nothing line');
+                pending = λ p h. rw (cut_up p l) none;
                 printed = λ p h. rw (fed_up p l, ← feeding.follows.printed p h)
                     (answer (cut p (take at piece)).pending (feeding.follows.pending p h)).front;
               };
         }
 
-    pub feeding_end : {line' : List ℕ} {m : ℕ} → length piece ≤ end
-        → ((p : List ℕ) → Held line held p → Held line' m (p ++ take (end - at) (drop at piece)))
-        → Follows line₀ n piece line' m (take written out)
+    pub feeding_end : {line' : Option (List ℕ)} → length piece ≤ end
+        → ((p : List ℕ) → line ≡ kept longest p → line' ≡ kept longest (p ++ take (end - at) (drop at piece)))
+        → Follows line₀ piece line' (take written out)
     feeding_end l longer =
         record {
           pending = λ p h. rw (cut-over p l) (longer (cut p (take at piece)).pending (feeding.follows.pending p h));
@@ -174,16 +171,12 @@ module _ (line₀ : List ℕ) (n : ℕ) (piece out₀ : List ℕ) where
 -- ---- the input
 
 -- a piece was fed that stands at the front of what it was read into
-pub next-fed : (line : List ℕ) (n : ℕ) (piece out : List ℕ) (read : ℕ) {after : List ℕ} {m written : ℕ} {text : List ℕ}
-    → length piece ≡ 65536 → length out ≡ 720896 → read ≤ length piece → (m ≤ 257) × (written ≤ length out)
-    → Follows line n (take (read - 0) (drop 0 piece)) after m text
-    → ((read ≤ 65536) × ((m ≤ 257) × (written ≤ 720896))) × Follows line n (take read piece) after m text
-next-fed line n piece out read buffer space l bounds f =
-    let z : read - 0 ≡ read = omega arith in
-    ((omega arith, (bounds.0, omega (arith, bounds.1))), rw z at f)
+pub next-fed : (line : Option (List ℕ)) (piece : List ℕ) (read : ℕ) {after : Option (List ℕ)} {text : List ℕ}
+    → Follows line (take (read - 0) (drop 0 piece)) after text → Follows line (take read piece) after text
+next-fed line piece read f = let z : read - 0 ≡ read = omega arith in rw z at f
 
-pub input_stopped : {line : List ℕ} {n : ℕ} {text : List ℕ} {ok : Bool} → ok ≡ false → Leaves line n → Answers ok line n text
+pub input_stopped : {line : Option (List ℕ)} {text : List ℕ} {ok : Bool} → ok ≡ false → Leaves line → Answers ok line text
 input_stopped f l = record { left = l; printed = λ t. clash t f }
 
-pub input-ended : {line : List ℕ} {n : ℕ} {text : List ℕ} (ok : Bool) → Leaves line n → ((p : List ℕ) → Held line n p → text ≡ finished p) → Answers ok line n text
+pub input-ended : {line : Option (List ℕ)} {text : List ℕ} (ok : Bool) → Leaves line → ((p : List ℕ) → line ≡ kept longest p → text ≡ finished p) → Answers ok line text
 input-ended ok l answer = record { left = l; printed = λ t. answer (cut [] l.input).pending l.pending }

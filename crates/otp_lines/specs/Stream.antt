@@ -3,7 +3,7 @@ use Rattle.std.specs.Prelude.{ℕ, ◌≡◌, Bool, true, Option}
 use Rattle.std.specs.Io.KnownBytes.{Appends, Consumes}
 use mathlib.Core.List.{List, [], ◌∷◌, ◌++◌, map, flatten}
 use Rattle.password_lines.specs.Line.{line_answer}
-use Rattle.lines.specs.Lines.{line_feed, lines_of, cut, last, Held}
+use Rattle.lines.specs.Lines.{line_feed, lines_of, cut, last, kept}
 
 -- what is printed for a line
 abbrev pub answered : List ℕ → List ℕ
@@ -26,27 +26,31 @@ fed p piece = answered_all (cut p piece).whole
 abbrev pub finished : List ℕ → List ℕ
 finished p = answered_all (last p)
 
--- a piece was fed: the buffer holds the new pending line, and text was printed
-pub record Follows (line : List ℕ) (n : ℕ) (piece after : List ℕ) (m : ℕ) (text : List ℕ) : Type 0 where
-  pub pending : (p : List ℕ) → Held line n p → Held after m (cut p piece).pending
-  pub printed : (p : List ℕ) → Held line n p → text ≡ fed p piece
+-- the longest line that is kept: a longer one is refused whatever it holds
+abbrev pub longest : ℕ
+longest = 256
 
--- an input was fed, from an empty buffer on: the buffer holds the line that no line feed of it has ended
-pub record Leaves (line : List ℕ) (n : ℕ) : Type 0 where
+-- a piece was fed: what is kept of the pending line is that of the new one, and text was printed
+pub record Follows (line : Option (List ℕ)) (piece : List ℕ) (after : Option (List ℕ)) (text : List ℕ) : Type 0 where
+  pub pending : (p : List ℕ) → line ≡ kept longest p → after ≡ kept longest (cut p piece).pending
+  pub printed : (p : List ℕ) → line ≡ kept longest p → text ≡ fed p piece
+
+-- an input was fed, where nothing was pending: kept is the line that no line feed of it has ended
+pub record Leaves (line : Option (List ℕ)) : Type 0 where
   pub input : List ℕ
-  pub pending : Held line n (cut [] input).pending
+  pub pending : line ≡ kept longest (cut [] input).pending
 
 -- an input was answered: where all was read and written out, text is what its end prints
-pub record Answers (ok : Bool) (line : List ℕ) (n : ℕ) (text : List ℕ) : Type 0 where
-  pub left : Leaves line n
+pub record Answers (ok : Bool) (line : Option (List ℕ)) (text : List ℕ) : Type 0 where
+  pub left : Leaves line
   pub printed : ok ≡ true → text ≡ finished (cut [] left.input).pending
 
 -- ---- from a reader to a writer
 
--- a reader, of which `known` and `rest` are the bytes that it had left before and after, gave an input, from an empty buffer on: a writer, of which `old`
--- and `new` are the bytes that it held before and after, took what the lines print that end in it, and the buffer holds the line that none has ended
-pub record Passes (known rest old new : Option (List ℕ)) (line : List ℕ) (n : ℕ) : Type 0 where
+-- a reader, of which `known` and `rest` are the bytes that it had left before and after, gave an input, where nothing was pending: a writer, of which
+-- `old` and `new` are the bytes that it held before and after, took what the lines print that end in it, and kept is the line that none has ended
+pub record Passes (known rest old new : Option (List ℕ)) (line : Option (List ℕ)) : Type 0 where
   pub input : List ℕ
   pub taken : Consumes known rest input
-  pub pending : Held line n (cut [] input).pending
+  pub pending : line ≡ kept longest (cut [] input).pending
   pub printed : Appends old new (fed [] input)

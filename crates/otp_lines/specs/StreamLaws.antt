@@ -1,12 +1,11 @@
 -- What is printed at the ends of lines and of the input, and that it never changes with how the input is cut into pieces.
-use Rattle.std.specs.Prelude.{ℕ, ◌≡◌, refl}
+use Rattle.std.specs.Prelude.{ℕ, ◌≡◌, refl, Option, Some}
 use mathlib.Core.List.{List, [], ◌∷◌, ◌++◌, flatten, append_assoc}
 use Rattle.text.specs.Text.{fields_of}
 use Rattle.password_lines.specs.Line.{line_answer, refusal}
-use Rattle.lines.specs.Lines.{line_feed, lines_of, cut, last, Held}
+use Rattle.lines.specs.Lines.{line_feed, lines_of, cut, last, kept}
 use Rattle.lines.specs.LinesLaws.{pieces_do_not_matter, lines_cut}
-use Rattle.lines.specs.BufferLaws.{held_nothing}
-use Rattle.otp_lines.specs.Stream.{answered, answered_all, output_of, fed, finished, Follows, Leaves}
+use Rattle.otp_lines.specs.Stream.{answered, answered_all, output_of, fed, finished, longest, Follows, Leaves}
 
 pub nothing_printed : output_of [] ≡ []
 unfolding output_of lines_of flatten
@@ -33,32 +32,32 @@ stream_is_output input = rw (lines_cut input, answered_join (cut [] input).whole
 
 -- ---- what the calls of `feed` and `finish` say together
 
-pub follows-none : (line : List ℕ) (n : ℕ) → Follows line n [] line n []
+pub follows-none : (line : Option (List ℕ)) → Follows line [] line []
 unfolding cut flatten
-follows-none line n = record { pending = λ p h. h; printed = λ p h. refl }
+follows-none line = record { pending = λ p h. h; printed = λ p h. refl }
 
-pub follows_join : {line a middle b after : List ℕ} {n k m : ℕ} {t u : List ℕ}
-    → Follows line n a middle k t → Follows middle k b after m u → Follows line n (a ++ b) after m (t ++ u)
-follows_join {a} {b} f g =
+pub follows_join : {line middle after : Option (List ℕ)} {a b t u : List ℕ}
+    → Follows line a middle t → Follows middle b after u → Follows line (a ++ b) after (t ++ u)
+follows_join {a = a} {b} f g =
     record {
       pending = λ p h. rw (pieces_do_not_matter p a b) (g.pending (cut p a).pending (f.pending p h));
       printed = λ p h. rw (fed_pieces p a b, f.printed p h, g.printed (cut p a).pending (f.pending p h));
     }
 
--- from an empty buffer to the end of the input the output is printed
-pub follows_output : {line input after : List ℕ} {m : ℕ} {text last : List ℕ}
-    → Follows line 0 input after m text → ((p : List ℕ) → Held after m p → last ≡ finished p) → text ++ last ≡ output_of input
-follows_output {line} {input} f g =
-    rw (f.printed [] (held_nothing line), g (cut [] input).pending (f.pending [] (held_nothing line))) (stream_is_output input)
+-- from where nothing is pending to the end of the input the output is printed
+pub follows_output : {input : List ℕ} {after : Option (List ℕ)} {text last : List ℕ}
+    → Follows (Some []) input after text → ((p : List ℕ) → after ≡ kept longest p → last ≡ finished p) → text ++ last ≡ output_of input
+follows_output {input} f g =
+    rw (f.printed [] refl, g (cut [] input).pending (f.pending [] refl)) (stream_is_output input)
 
 -- ---- what the loop over the pieces keeps
 
-pub leaves_none : (line : List ℕ) → Leaves line 0
+pub leaves_none : Leaves (Some [])
 unfolding cut
-leaves_none line = record { input = []; pending = held_nothing line }
+leaves_none = record { input = []; pending = refl }
 
 -- a piece behind the input so far
-pub leaves_more : {line piece after : List ℕ} {n m : ℕ} {text : List ℕ} → Leaves line n → Follows line n piece after m text → Leaves after m
+pub leaves_more : {line after : Option (List ℕ)} {piece text : List ℕ} → Leaves line → Follows line piece after text → Leaves after
 leaves_more {piece = piece} l f =
     record {
       input = l.input ++ piece;

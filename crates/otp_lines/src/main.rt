@@ -7,11 +7,12 @@ mod pending;
 mod stream;
 
 use input::{OUTPUT, PIECE, answer_input};
+use lines::Pending;
 use pending::LONGEST;
 use std::io;
 
 fn main(rt: HostRuntime) -> io::Result<()> {
-    let mut line = [0u8; LONGEST];
+    let mut line = Pending::<LONGEST>::new();
     let mut piece = [0u8; PIECE];
     let mut out = [0u8; OUTPUT];
     let mut input = rt.stdin();

@@ -13,11 +13,9 @@ pub(crate) fn put_answer(out: &mut [u8], at: usize, line: &[u8]) -> usize
     ensures put { Put out.old at (answered line.now) out.new result }
 {
     let printed = answer(line);
-    let n = printed.len;
-    let text = printed.bytes;
     // All ten bytes, since a count that the compiler knows costs less; the next answer overwrites what is not this one's.
-    put(out, at, &text);
-    let end = at + n;
+    put(out, at, printed.padded());
+    let end = at + printed.len();
     out[end] = LINE_FEED;
     end + 1
 }

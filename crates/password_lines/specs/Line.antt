@@ -1,11 +1,7 @@
 -- What is printed for a line `key,T,C,Q,algorithm,digits` (document 01, "Line program").
-use Rattle.std.specs.Prelude.{ℕ, ◌-◌, ◌^◌, cond, List, [], ◌∷◌, ◌++◌, eqb, ltb, length, get_or, replicate}
-use Rattle.std.proofs.Math.Option.{Option, none, some}
-use Rattle.otp.specs.declared.Factor.{Factor}
-use Rattle.otp.specs.declared.Factor.TheVariants.{Absent, Present}
-use Rattle.otp.specs.Password.{arguments_ok, password_of}
+use Rattle.std.specs.Prelude.{ℕ, ◌^◌, cond, Option, Some, None, List, [], ◌∷◌, eqb, ltb, length, get_or}
+use Rattle.otp.specs.Password.{Factor, arguments_ok, password_of}
 use Rattle.text.specs.Text.{decimal_of, hex_of, fields_of}
-use Rattle.password_lines.specs.declared.Printed.{Printed}
 
 -- the text 9005
 abbrev pub refusal : List ℕ
@@ -13,17 +9,17 @@ refusal = 0x39 ∷ 0x30 ∷ 0x30 ∷ 0x35 ∷ []
 
 -- what follows of a value that was read, or the refusal
 abbrev pub given : {A : Type 0} → Option A → (A → List ℕ) → List ℕ
-given none f = refusal
-given (some x) f = f x
+given None f = refusal
+given (Some x) f = f x
 
 -- a number below the limit
 abbrev pub below : ℕ → Option ℕ → Option Factor
-below limit none = none
-below limit (some x) = cond (ltb x limit) (some (Present x)) none
+below limit None = None
+below limit (Some x) = cond (ltb x limit) (Some (Some x)) None
 
 -- T and C: an empty field is absent
 unfoldable pub factor_field : ℕ → List ℕ → Option Factor
-factor_field limit [] = some Absent
+factor_field limit [] = Some None
 factor_field limit (b ∷ s) = below limit (decimal_of (b ∷ s))
 
 -- the password, or the refusal where Part 2's arguments are bad
@@ -51,7 +47,3 @@ line_answer line =
     cond (eqb (length (fields_of line)) 6)
     (fields_answer (field_of line 0) (field_of line 1) (field_of line 2) (field_of line 3) (field_of line 4) (field_of line 5))
     refusal
-
--- the same as the function gives it: how many bytes, and the bytes with zeros behind them
-unfoldable pub printed_of : List ℕ → Printed
-printed_of text = record { len = length text; bytes = text ++ replicate (10 - length text) 0 }

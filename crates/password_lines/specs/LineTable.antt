@@ -1,9 +1,8 @@
 -- What lines mean (document 01, "Line program"): the document's line, the ends of T and C, an absent factor, hexadecimal digits of either case; and lines not
 -- so made, as a table with one proof. In ASCII 1234 is 31323334 hexadecimal.
-use Rattle.std.specs.Prelude.{ℕ, ◌-◌, ◌^◌, ◌≡◌, refl, Bool, true, ◌&&◌, List, [], ◌∷◌, ◌++◌, replicate}
+use Rattle.std.specs.Prelude.{ℕ, ◌-◌, ◌^◌, ◌≡◌, refl, Bool, true, ◌&&◌, Some, None, List, [], ◌∷◌, ◌++◌, replicate}
 use Rattle.words.specs.Bytes.{be_bytes}
 use Rattle.words.specs.Lists.{same_bytes, all_within}
-use Rattle.otp.specs.declared.Factor.TheVariants.{Absent, Present}
 use Rattle.otp.specs.Password.{challenge_ok, arguments_ok, password_of}
 use Rattle.text.specs.Text.{digit_value, digits_from, decimal_of, byte_then, hex_of, longer, fields_of}
 use Rattle.password_lines.specs.Line.{factor_field, password_text, fields_answer, line_answer}
@@ -42,18 +41,18 @@ abbrev pub six : List ℕ
 six = 0x36 ∷ []
 
 -- the document's line, which prints 446720 by `worked_passwords_hold`
-pub documents_line : line_answer (line key_text time_text count_text challenge_text four six) ≡ password_of 4 key_of_line (Present 1340783053) (Present 1234) (be_bytes 4 0x35363738) 6
+pub documents_line : line_answer (line key_text time_text count_text challenge_text four six) ≡ password_of 4 key_of_line (Some 1340783053) (Some 1234) (be_bytes 4 0x35363738) 6
 unfolding be_bytes all_within challenge_ok arguments_ok digit_value digits_from decimal_of byte_then hex_of longer fields_of factor_field password_text fields_answer line_answer
 documents_line = refl
 
 -- T = 2^64 - 1 alone, without C and Q
 pub longest-time : line_answer (line capital_text (be_bytes 20 0x3138343436373434303733373039353531363135) [] [] three (0x31 ∷ 0x30 ∷ []))
-    ≡ password_of 3 key_of_line (Present (2 ^ 64 - 1)) Absent [] 10
+    ≡ password_of 3 key_of_line (Some (2 ^ 64 - 1)) None [] 10
 unfolding be_bytes all_within challenge_ok arguments_ok digit_value digits_from decimal_of byte_then hex_of longer fields_of factor_field password_text fields_answer line_answer
 longest-time = refl
 
 -- C = 2^32 - 1 alone
-pub longest-count : line_answer (line key_text [] (be_bytes 10 0x34323934393637323935) [] four six) ≡ password_of 4 key_of_line Absent (Present (2 ^ 32 - 1)) [] 6
+pub longest-count : line_answer (line key_text [] (be_bytes 10 0x34323934393637323935) [] four six) ≡ password_of 4 key_of_line None (Some (2 ^ 32 - 1)) [] 6
 unfolding be_bytes all_within challenge_ok arguments_ok digit_value digits_from decimal_of byte_then hex_of longer fields_of factor_field password_text fields_answer line_answer
 longest-count = refl
 

@@ -1,74 +1,42 @@
 // The six fields of a line, read and answered.
-ghost use Rattle.std.specs.Prelude.{◌≡◌, [], ◌∷◌, ◌+◌};
+ghost use Rattle.std.specs.Prelude.{◌≡◌, ◌+◌, unwrap_or};
 ghost use Rattle.text.specs.Text.{decimal_of};
-ghost use Rattle.password_lines.specs.Line.{refusal, factor_field, password_text, fields_answer, printed_of};
-ghost use Rattle.password_lines.specs.Fields.{read_of, small_of};
+ghost use Rattle.password_lines.specs.Line.{refusal, factor_field, password_text, fields_answer};
+ghost use Rattle.password_lines.specs.Fields.{byte_of};
 
 use crate::Printed;
 use otp::{Factor, password};
-use text::{Number, decimal, hex};
-use words::codes::DONE;
-
-// A factor's field: the factor, or a number that is not right.
-#[derive(Clone, Copy)]
-pub enum FactorRead {
-    Is(Factor),
-    Bad,
-}
-
-// The text 9005.
-pub(crate) fn refused() -> Printed
-    ensures { result ≡ printed_of refusal }
-{
-    Printed {
-        len: 4,
-        bytes: [0x39, 0x30, 0x30, 0x35, 0, 0, 0, 0, 0, 0],
-    }
-}
+use text::{Bytes, decimal, hex};
 
 // T or C: absent where the field is empty, else a number up to `most`.
-fn factor_field(field: &[u8], most: u64) -> FactorRead
-    ensures { result ≡ read_of (factor_field (most + 1) field.now) }
+fn factor_field(field: &[u8], most: u64) -> Option<Factor>
+    ensures { result ≡ factor_field (most + 1) field.now }
 {
     if field.len() == 0 {
-        return FactorRead::Is(Factor::Absent);
+        return Some(None);
     }
-    let Number::Value(x) = decimal(field) else {
-        return FactorRead::Bad;
-    };
-    if x <= most {
-        return FactorRead::Is(Factor::Present(x));
-    }
-    FactorRead::Bad
+    let x = decimal(field)?;
+    if x <= most { Some(Some(x)) } else { None }
 }
 
-// A digit, or 0 for another byte.
-fn digit(b: u8) -> u8
-    ensures { result ≡ small_of (decimal_of (b ∷ [])) }
-{
-    if (0x30 <= b) & (b <= 0x39) {
-        return b - 0x30;
-    }
-    0
-}
-
-// A small number; what is no number or too large becomes 0, which neither an algorithm nor a count of digits is. Most have one digit.
-fn small_field(field: &[u8]) -> u8
-    ensures { result ≡ small_of (decimal_of field.now) }
+// A small number. Most have one digit.
+#[inline(always)]
+fn small_field(field: &[u8]) -> Option<u8>
+    ensures { result ≡ byte_of (decimal_of field.now) }
 {
     if field.len() == 1 {
-        return digit(field[0]);
+        let b = field[0];
+        return if (0x30 <= b) & (b <= 0x39) {
+            Some(b - 0x30)
+        } else {
+            None
+        };
     }
-    let Number::Value(x) = decimal(field) else {
-        return 0;
-    };
-    if x < 256 {
-        return x as u8;
-    }
-    0
+    let x = decimal(field)?;
+    if x < 256 { Some(x as u8) } else { None }
 }
 
-// The password of read arguments, or 9005 where they are bad.
+// The password of read arguments; none where they are bad.
 fn password_text(
     algorithm: u8,
     key: &[u8],
@@ -76,16 +44,15 @@ fn password_text(
     count: Factor,
     challenge: &[u8],
     digits: u8,
-) -> Printed
-    ensures { result ≡ printed_of (password_text algorithm key.now time count challenge.now digits) }
+) -> Option<Printed>
+    ensures { unwrap_or result refusal ≡ password_text algorithm key.now time count challenge.now digits }
 {
     let mut out = [0u8; 10];
     let n = digits as usize;
-    let code = password(algorithm, key, time, count, challenge, n, &mut out);
-    if code != DONE {
-        return refused();
+    match password(algorithm, key, time, count, challenge, n, &mut out) {
+        Ok(()) => Some(Bytes::new(out, n)),
+        Err(_) => None,
     }
-    Printed { len: n, bytes: out }
 }
 
 pub(crate) fn fields_answer(
@@ -95,22 +62,13 @@ pub(crate) fn fields_answer(
     challenge: &[u8],
     algorithm: &[u8],
     digits: &[u8],
-) -> Printed
-    ensures { result ≡ printed_of (fields_answer key.now time.now count.now challenge.now algorithm.now digits.now) }
+) -> Option<Printed>
+    ensures { unwrap_or result refusal ≡ fields_answer key.now time.now count.now challenge.now algorithm.now digits.now }
 {
-    let decoded = hex(key);
-    if !decoded.ok {
-        return refused();
-    }
-    let n = decoded.len;
-    let bytes = decoded.bytes;
-    let FactorRead::Is(t) = factor_field(time, 0xffff_ffff_ffff_ffff) else {
-        return refused();
-    };
-    let FactorRead::Is(c) = factor_field(count, 0xffff_ffff) else {
-        return refused();
-    };
-    let a = small_field(algorithm);
-    let d = small_field(digits);
-    password_text(a, &bytes[0..n], t, c, challenge, d)
+    let key = hex(key)?;
+    let t = factor_field(time, 0xffff_ffff_ffff_ffff)?;
+    let c = factor_field(count, 0xffff_ffff)?;
+    let a = small_field(algorithm)?;
+    let d = small_field(digits)?;
+    password_text(a, key.as_slice(), t, c, challenge, d)
 }

@@ -3,45 +3,44 @@
 
 mod fields;
 
-ghost use Rattle.std.specs.Prelude.{◌≡◌};
-ghost use Rattle.password_lines.specs.Line.{line_answer, printed_of};
+ghost use Rattle.std.specs.Prelude.{◌≡◌, unwrap_or};
+ghost use Rattle.password_lines.specs.Line.{refusal, line_answer};
 
-use fields::{fields_answer, refused};
-use text::split_six;
+use fields::fields_answer;
+use text::{Bytes, first_field};
 
-// What is printed for a line: the first `len` bytes; zeros stand behind them.
-#[derive(Clone, Copy)]
-pub struct Printed {
-    pub len: usize,
-    pub bytes: [u8; 10],
+// What is printed for a line: a password has up to ten digits.
+pub type Printed = Bytes<10>;
+
+// The text 9005.
+fn refused() -> Printed
+    ensures { result ≡ refusal }
+{
+    Bytes::new([0x39, 0x30, 0x30, 0x35, 0, 0, 0, 0, 0, 0], 4)
+}
+
+// The password of a line of six fields, if it has one.
+fn password_of(line: &[u8]) -> Option<Printed>
+    ensures { unwrap_or result refusal ≡ line_answer line.now }
+{
+    let (key, rest) = first_field(line);
+    let (time, rest) = first_field(rest?);
+    let (count, rest) = first_field(rest?);
+    let (challenge, rest) = first_field(rest?);
+    let (algorithm, rest) = first_field(rest?);
+    let (digits, rest) = first_field(rest?);
+    match rest {
+        None => fields_answer(key, time, count, challenge, algorithm, digits),
+        Some(_) => None,
+    }
 }
 
 // The password of a line `key,T,C,Q,algorithm,digits`, or 9005.
 pub fn answer(line: &[u8]) -> Printed
-    ensures { result ≡ printed_of (line_answer line.now) }
+    ensures { result ≡ line_answer line.now }
 {
-    let split = split_six(line);
-    if !split.ok {
-        return refused();
+    match password_of(line) {
+        Some(password) => password,
+        None => refused(),
     }
-    let ends = split.ends;
-    let key_end = ends[0];
-    let time = ends[0] + 1;
-    let time_end = ends[1];
-    let count = ends[1] + 1;
-    let count_end = ends[2];
-    let challenge = ends[2] + 1;
-    let challenge_end = ends[3];
-    let algorithm = ends[3] + 1;
-    let algorithm_end = ends[4];
-    let digits = ends[4] + 1;
-    let digits_end = ends[5];
-    fields_answer(
-        &line[0..key_end],
-        &line[time..time_end],
-        &line[count..count_end],
-        &line[challenge..challenge_end],
-        &line[algorithm..algorithm_end],
-        &line[digits..digits_end],
-    )
 }

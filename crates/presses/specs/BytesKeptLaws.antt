@@ -1,5 +1,5 @@
 -- A call leaves a table of bytes one, where the key of a load is of bytes.
-use Rattle.std.specs.Prelude.{ℕ, zero, suc, ◌+◌, ◌-◌, ◌<◌, ◌≡◌, Bool, true, ◌&&◌, List, [], ◌∷◌, ◌++◌, eqb, leb, length, get_or, take, drop}
+use Rattle.std.specs.Prelude.{ℕ, zero, suc, ◌+◌, ◌-◌, ◌<◌, ◌≡◌, Bool, true, ◌&&◌, List, [], ◌∷◌, ◌++◌, eqb, leb, length, get_or, take, drop, Some, None}
 use Rattle.std.proofs.Common.{⊎_elim, zero-lt-suc, arith, get_or-drop}
 use borrow.Author.Tests.{eqb-true, leb-true}
 use Rattle.words.specs.Bytes.{AreBytes, put}
@@ -8,9 +8,8 @@ use Rattle.words.specs.SwapLaws.{bytes-append, bytes-be_bytes}
 use Rattle.words.specs.SumLaws.{bytes_zeros}
 use Rattle.words.specs.Lists.{one_of}
 use Rattle.window.specs.PasswordAt.{PasswordRule}
-use Rattle.row.specs.declared.reading.Place.{Place}
 use Rattle.row.specs.Row.{row_bytes, last_state, number_tests, numbers_ok}
-use Rattle.row.specs.Table.{find_row}
+use Rattle.row.specs.Table.{Place, find_row}
 use Rattle.row.specs.RangeLaws.{test-passes, known_algorithm, digits_in_range, length_in_range}
 use Rattle.row.specs.FoundLaws.{empty-within}
 use Rattle.token.specs.Codes.{number_of}
@@ -173,7 +172,7 @@ call-keeps-bytes passwords (DeskCall.named request serial clock) s h k =
     rw (demand_1_bytes passwords (DeskCall.named request serial clock) s h) (placed (find_row row_bytes s serial) (number_of answer) (step_in answer))
   where
     placed : (place : Place) (code a : ℕ) → AreBytes (at_place s place (λ at. laid s at (left_by s at clock (press_in passwords request s at clock) code a)))
-    placed (Place.At at) code a =
+    placed (Some at) code a =
         let press = press_in passwords request s at clock in
         laid-bytes s at (left_by s at clock press code a) h (left-all s at clock press code a)
-    placed Place.Nowhere code a = h
+    placed None code a = h

@@ -23,11 +23,10 @@ use Rattle.row.specs.Table.{find_row, located, store_row}
 use Rattle.row.specs.FoundLaws.{found_within}
 use Rattle.row.specs.StoreLaws.{store_same}
 use Rattle.token.specs.declared.lines.Fails.{Fails}
-use Rattle.token.specs.declared.lines.Needs.TheVariants.{From}
 use Rattle.token.specs.declared.lines.Way.TheVariants.{Checks}
 use Rattle.token.specs.declared.lines.After.TheVariants.{Kept}
 use Rattle.token.specs.declared.lines.Line.{Line}
-use Rattle.token.specs.Lines.{ready, at_login, listed, allowed, state_refusal}
+use Rattle.token.specs.Lines.{ready, at_login, listed, allowed, state_refusal, from_to}
 use Rattle.token.specs.Codes.{refusal_number, number_of}
 use Rattle.token.specs.States.{wait_over, waited}
 use Rattle.token.specs.Deciding.{deciding, decided}
@@ -76,7 +75,7 @@ module _ (passwords : PasswordRule) (serial clock : ℕ) (s : List ℕ) where
     login-judged : (asked : Asked) (success : ℕ) (challenge p : List ℕ) (o : Outcome) → Reached request serial clock s at → leb 2 (row_now s at clock).state && leb (row_now s at clock).state 2 ≡ true
         → password_ok p ≡ true → press_at passwords request clock s at ≡ last_has passwords (row_at s at).track (secret_at s at) clock challenge p
         → o ≡ one_asked passwords (row_now s at clock).track clock (secret_at s at) Small challenge (as_password p) → eqb success 0x8004 ≡ false
-        → Judges (listed (From ready ready) (Checks asked at_login) success Kept) asked at_login o
+        → Judges (listed (from_to ready ready) (Checks asked at_login) success Kept) asked at_login o
     login-judged asked success challenge p o r t ok same eo apart =
         let state = (row_now s at clock).state in
         record {

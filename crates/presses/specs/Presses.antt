@@ -1,12 +1,11 @@
 -- A double press on the tablet (document 02, Ask 4): what one does, and what lists of calls come to without them. Everything is said of any table, damaged ones
 -- included, and of every password rule; `PressesLaws` has the proofs.
-use Rattle.std.specs.Prelude.{ℕ, ◌≡◌, Bool, true, false, ◌&&◌, cond, List, [], ◌∷◌, eqb, replicate}
+use Rattle.token.specs.Answers.{Answer}
+use Rattle.std.specs.Prelude.{ℕ, ◌≡◌, Bool, true, false, ◌&&◌, cond, List, [], ◌∷◌, eqb, replicate, Some, None}
 use Rattle.words.specs.Bytes.{AreBytes}
 use Rattle.window.specs.PasswordAt.{PasswordRule}
-use Rattle.row.specs.declared.reading.Place.{Place}
 use Rattle.row.specs.Row.{row_bytes, row_at}
-use Rattle.row.specs.Table.{find_row, store_row}
-use Rattle.token.specs.declared.answers.Answer.{Answer}
+use Rattle.row.specs.Table.{Place, find_row, store_row}
 use Rattle.token.specs.Codes.{number_of}
 use Rattle.token.specs.States.{waited}
 use Rattle.desk.specs.Requests.{Request, DeskCall}
@@ -15,8 +14,8 @@ use Rattle.desk.specs.Demand1.{press_at}
 
 -- what holds of the row that a call names, if there is one
 abbrev pub of_row : Place → (ℕ → Bool) → Bool
-of_row (Place.At at) test = test at
-of_row Place.Nowhere test = false
+of_row (Some at) test = test at
+of_row None test = false
 
 -- a press: a login or challenge login answered 8004 whose password is that of the candidate before the first unused step
 unfoldable pub is_press : PasswordRule → DeskCall → List ℕ → Bool
@@ -28,7 +27,7 @@ is_press passwords (DeskCall.named request serial clock) s =
 
 -- answered 8004; of the row a wait has run out and nothing else changed, so that the token is ready with the errors that it had
 pub record LeavesReady (serial clock : ℕ) (s : List ℕ) (at : ℕ) (x : Result) : Type 0 where
-  pub found : find_row row_bytes s serial ≡ Place.At at
+  pub found : find_row row_bytes s serial ≡ Some at
   pub answer : number_of x.answer ≡ 0x8004
   pub table : x.table ≡ store_row s at (waited (row_at s at) clock)
   pub state : (row_at x.table at).state ≡ 2

@@ -1,8 +1,8 @@
 -- Lists of calls with and without double presses (`Presses`), by what one press comes to.
+use Rattle.token.specs.Answers.{Answer}
 use Rattle.std.specs.Prelude.{ℕ, ◌≡◌, refl, List, [], ◌∷◌}
 use Rattle.std.proofs.Common.{subst}
 use Rattle.words.specs.BoolLaws.{by-test}
-use Rattle.token.specs.declared.answers.Answer.{Answer}
 use Rattle.desk.specs.Desk.{desk_after, run}
 use Rattle.presses.specs.Presses.{is_press, others, idled, PressesOnlyWait, struck, PressesStruck}
 use Rattle.presses.specs.BytesKeptLaws.{call-keeps-bytes}

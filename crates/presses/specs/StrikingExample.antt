@@ -1,5 +1,6 @@
 -- Presses cannot be struck from every list: one lets a wait run out, and a clock that goes back then finds its token ready. Computed, for a token that was locked
 -- by errors at 1000 with a wait of 60 seconds.
+use Rattle.token.specs.Answers.{Answer}
 use Rattle.std.specs.Prelude.{ℕ, ◌≡◌, refl, List, [], ◌∷◌}
 use Rattle.words.specs.Bytes.{be_at, be_bytes, put_be}
 use Rattle.words.specs.Lists.{same_bytes, all_zero, all_within}
@@ -11,7 +12,6 @@ use Rattle.window.specs.Check.{smallest, how_many, checked}
 use Rattle.window.specs.TokenCheck.{fresh_matches, single_check}
 use Rattle.row.specs.Row.{row_at, number_tests, numbers_ok, zeros_ok, well_formed}
 use Rattle.row.specs.Table.{has_serial, first_row, find_row, located, store_row}
-use Rattle.token.specs.declared.answers.Answer.{Answer}
 use Rattle.token.specs.Codes.{number_of}
 use Rattle.token.specs.States.{wait_over, waited, with_state, accepted, failed}
 use Rattle.token.specs.Deciding.{deciding, decided}

@@ -1,5 +1,5 @@
 -- Laws of the search as the code makes it: the rows that are left give what all give, and rows without the serial are passed over by fours.
-use Rattle.std.specs.Prelude.{ℕ, zero, suc, ◌+◌, ◌-◌, ◌*◌, ◌/◌, ◌^◌, ◌≤◌, ◌<◌, ◌≡◌, Bool, true, false, not, ◌&&◌, ◌||◌, List, leb}
+use Rattle.std.specs.Prelude.{ℕ, zero, suc, ◌+◌, ◌-◌, ◌*◌, ◌/◌, ◌^◌, ◌≤◌, ◌<◌, ◌≡◌, Bool, true, false, not, ◌&&◌, ◌||◌, List, leb, Some, None}
 use Rattle.std.proofs.Math.Path.{refl}
 use Rattle.std.proofs.Common.{sym, ap, ◌∙◌, add-one}
 use Rattle.std.proofs.Math.Nat.{sub-zero, div-eq_of_lt, div-eq-sub-div}
@@ -9,11 +9,9 @@ use Rattle.std.proofs.Math.ListN.{length}
 use Rattle.words.specs.Bytes.{AreBytes, swap_bytes}
 use Rattle.words.specs.BoolLaws.{and_false, and_left, and_right, or_left, or_right}
 use Rattle.words.specs.SwapLaws.{swapped_same}
-use Rattle.row.specs.declared.reading.Place.{Place}
-use Rattle.row.specs.declared.reading.Place.TheVariants.{At, Nowhere}
 use Rattle.row.specs.declared.finding.Wanted.TheVariants.{Serial, Empty}
 use Rattle.row.specs.Row.{row_bytes}
-use Rattle.row.specs.Table.{is_empty, has_serial, first_row, find_row, find_empty}
+use Rattle.row.specs.Table.{Place, is_empty, has_serial, first_row, find_row, find_empty}
 use Rattle.row.specs.Finding.{serial_is, passes, first_from, four_lack}
 
 -- ---- one row after the other
@@ -26,13 +24,13 @@ one_more n width at next some e h =
     div-eq-sub-div some l ∙ rw (m, add-one)
 
 module _ (width : ℕ) (test : ℕ → Bool) (s : List ℕ) (some : row_bytes ≤ width) (at : ℕ) where
-  pub none_left : length s < at + width → Nowhere ≡ first_from width test s at
+  pub none_left : length s < at + width → None ≡ first_from width test s at
   unfolding first_from first_row
   none_left h =
       let l : length s - at < width = omega arith in
       rw (div-eq_of_lt l)
 
-  pub first_passes : at + width ≤ length s → test at ≡ true → At at ≡ first_from width test s at
+  pub first_passes : at + width ≤ length s → test at ≡ true → Some at ≡ first_from width test s at
   unfolding first_from first_row
   first_passes h t = rw (one_more (length s) width at (at + width) (omega arith) refl h, t)
 

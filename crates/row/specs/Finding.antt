@@ -1,10 +1,9 @@
 -- The search for a row as the code makes it: by the serial's bytes in the other order, and over four rows at once.
 use Rattle.std.specs.Prelude.{ℕ, ◌+◌, ◌-◌, ◌*◌, ◌/◌, Bool, not, ◌&&◌, ◌||◌, List, eqb, leb, length}
 use Rattle.words.specs.Bytes.{le_at}
-use Rattle.row.specs.declared.reading.Place.{Place}
 use Rattle.row.specs.declared.finding.Wanted.{Wanted}
 use Rattle.row.specs.declared.finding.Wanted.TheVariants.{Serial, Empty}
-use Rattle.row.specs.Table.{is_empty, first_row}
+use Rattle.row.specs.Table.{Place, is_empty, first_row}
 
 -- whether the row at a place has the serial whose bytes, in the other order, are the wanted number
 abbrev pub serial_is : List ℕ → ℕ → ℕ → Bool

@@ -1,17 +1,16 @@
 -- What a search finds: a row that passes, within the table, and no earlier one.
 use Prim.Native.Nat.{ℕ, zero, suc, ◌+◌, ◌*◌, ◌/◌, ◌≤◌, ◌<◌}
-use Rattle.std.specs.Prelude.{◌≡◌, ◌⊎◌, Bool, true, false, List, length}
+use Rattle.std.specs.Prelude.{◌≡◌, ◌⊎◌, Bool, true, false, List, length, Some, None}
 use Rattle.std.proofs.Common.{subst, ◌∙◌, inl, inr, ⊎_elim, zero-add, mul-le-mul_right, div-mul-le_self, not-suc-le-zero}
 use Rattle.std.proofs.Math.Nat.{suc-mul}
 use native.Mathlib.Omega.{arith}
 use Rattle.words.specs.BoolLaws.{by-test, clash, impossible}
 use Rattle.window.proofs.CheckLaws.{order}
-use Rattle.row.specs.declared.reading.Place.TheVariants.{At, Nowhere}
 use Rattle.row.specs.Row.{row_bytes}
 use Rattle.row.specs.Table.{is_empty, has_serial, first_row, find_row, find_empty}
 
 module _ (width : ℕ) (test : ℕ → Bool) where
-  first-has : (count at place : ℕ) → first_row width test count at ≡ At place → test place ≡ true
+  first-has : (count at place : ℕ) → first_row width test count at ≡ Some place → test place ≡ true
   unfolding first_row
   first-has zero at place e = cc
   first-has (suc count) at place e =
@@ -19,7 +18,7 @@ module _ (width : ℕ) (test : ℕ → Bool) where
       (λ t. let f = rw t at e in let p : at ≡ place = cc in rw (← p) t)
       (λ t. first-has count (at + width) place (rw t at e))
 
-  first-within : (count at place : ℕ) → first_row width test count at ≡ At place → place + width ≤ at + count * width
+  first-within : (count at place : ℕ) → first_row width test count at ≡ Some place → place + width ≤ at + count * width
   unfolding first_row
   first-within zero at place e = impossible (cc)
   first-within (suc count) at place e =
@@ -33,7 +32,7 @@ module _ (width : ℕ) (test : ℕ → Bool) where
   next_row at j = let m = suc-mul j width in omega arith
 
   -- no earlier row passes
-  first-first : (count at place : ℕ) → first_row width test count at ≡ At place → (j : ℕ) → at + j * width < place → test (at + j * width) ≡ false
+  first-first : (count at place : ℕ) → first_row width test count at ≡ Some place → (j : ℕ) → at + j * width < place → test (at + j * width) ≡ false
   unfolding first_row
   first-first zero at place e j l = cc
   first-first (suc count) at place e zero l =
@@ -46,7 +45,7 @@ module _ (width : ℕ) (test : ℕ → Bool) where
       (λ t. let f = rw t at e in let p : at ≡ place = cc in absurd (omega arith))
       (λ t. rw n (first-first count (at + width) place (rw t at e) j (omega arith)))
 
-  nowhere-passes : (count at : ℕ) → first_row width test count at ≡ Nowhere → (j : ℕ) → j < count → test (at + j * width) ≡ false
+  nowhere-passes : (count at : ℕ) → first_row width test count at ≡ None → (j : ℕ) → j < count → test (at + j * width) ≡ false
   unfolding first_row
   nowhere-passes zero at e j l = absurd (not-suc-le-zero l)
   nowhere-passes (suc count) at e zero l =
@@ -55,7 +54,7 @@ module _ (width : ℕ) (test : ℕ → Bool) where
       by-test (test at) (λ t. let f = rw t at e in cc) (λ t. rw (next_row at j) (nowhere-passes count (at + width) (rw t at e) j (omega arith)))
 
   -- what is found stands a number of rows on
-  first-row : (count at place : ℕ) → first_row width test count at ≡ At place → (j : ℕ) × (place ≡ at + j * width)
+  first-row : (count at place : ℕ) → first_row width test count at ≡ Some place → (j : ℕ) × (place ≡ at + j * width)
   unfolding first_row
   first-row zero at place e = impossible (cc)
   first-row (suc count) at place e =
@@ -74,20 +73,20 @@ row_before : (width i j : ℕ) → i < j → i * width + width ≤ j * width
 row_before width i j l = let m = mul-le-mul_right width l in let n = suc-mul i width in omega arith
 
 module _ (width : ℕ) (test : ℕ → Bool) (s : List ℕ) where
-  whole-within : (at : ℕ) → first_row width test (length s / width) 0 ≡ At at → at + width ≤ length s
+  whole-within : (at : ℕ) → first_row width test (length s / width) 0 ≡ Some at → at + width ≤ length s
   whole-within at e =
       let l = first-within width test (length s / width) 0 at e in
       let d = div-mul-le_self (length s) width in
       omega arith
 
-  whole-first : (at : ℕ) → first_row width test (length s / width) 0 ≡ At at → (j : ℕ) → j * width < at → test (j * width) ≡ false
+  whole-first : (at : ℕ) → first_row width test (length s / width) 0 ≡ Some at → (j : ℕ) → j * width < at → test (j * width) ≡ false
   whole-first at e j l = subst (λ (i : ℕ). test i ≡ false) (zero-add (j * width)) (first-first width test (length s / width) 0 at e j (omega arith))
 
-  whole-nowhere : first_row width test (length s / width) 0 ≡ Nowhere → (j : ℕ) → j < length s / width → test (j * width) ≡ false
+  whole-nowhere : first_row width test (length s / width) 0 ≡ None → (j : ℕ) → j < length s / width → test (j * width) ≡ false
   whole-nowhere e j l = subst (λ (i : ℕ). test i ≡ false) (zero-add (j * width)) (nowhere-passes width test (length s / width) 0 e j l)
 
   -- a row that does not pass lies wholly before or behind the one found
-  whole_apart : (at : ℕ) → first_row width test (length s / width) 0 ≡ At at → (i : ℕ) → test (i * width) ≡ false → (i * width + width ≤ at) ⊎ (at + width ≤ i * width)
+  whole_apart : (at : ℕ) → first_row width test (length s / width) 0 ≡ Some at → (i : ℕ) → test (i * width) ≡ false → (i * width + width ≤ at) ⊎ (at + width ≤ i * width)
   whole_apart at e i fails =
       let found = first-row width test (length s / width) 0 at e in
       let j = found.0 in
@@ -103,43 +102,43 @@ module _ (width : ℕ) (test : ℕ → Bool) (s : List ℕ) where
       (order i j)
 
 module _ (width : ℕ) (s : List ℕ) (serial : ℕ) where
-  pub found-has : (at : ℕ) → find_row width s serial ≡ At at → has_serial s serial at ≡ true
+  pub found-has : (at : ℕ) → find_row width s serial ≡ Some at → has_serial s serial at ≡ true
   unfolding find_row
   found-has at e = first-has width (has_serial s serial) (length s / width) 0 at e
 
-  pub found_within : row_bytes ≤ width → (at : ℕ) → find_row width s serial ≡ At at → at + row_bytes ≤ length s
+  pub found_within : row_bytes ≤ width → (at : ℕ) → find_row width s serial ≡ Some at → at + row_bytes ≤ length s
   unfolding find_row
   found_within long at e = let l = whole-within width (has_serial s serial) s at e in omega arith
 
-  pub found_first : (at : ℕ) → find_row width s serial ≡ At at → (j : ℕ) → j * width < at → has_serial s serial (j * width) ≡ false
+  pub found_first : (at : ℕ) → find_row width s serial ≡ Some at → (j : ℕ) → j * width < at → has_serial s serial (j * width) ≡ false
   unfolding find_row
   found_first = whole-first width (has_serial s serial) s
 
-  pub found_nowhere : find_row width s serial ≡ Nowhere → (j : ℕ) → j < length s / width → has_serial s serial (j * width) ≡ false
+  pub found_nowhere : find_row width s serial ≡ None → (j : ℕ) → j < length s / width → has_serial s serial (j * width) ≡ false
   unfolding find_row
   found_nowhere = whole-nowhere width (has_serial s serial) s
 
-  pub found-apart : (at : ℕ) → find_row width s serial ≡ At at → (i : ℕ) → has_serial s serial (i * width) ≡ false → (i * width + width ≤ at) ⊎ (at + width ≤ i * width)
+  pub found-apart : (at : ℕ) → find_row width s serial ≡ Some at → (i : ℕ) → has_serial s serial (i * width) ≡ false → (i * width + width ≤ at) ⊎ (at + width ≤ i * width)
   unfolding find_row
   found-apart = whole_apart width (has_serial s serial) s
 
 module _ (width : ℕ) (s : List ℕ) where
-  pub empty-has : (at : ℕ) → find_empty width s ≡ At at → is_empty s at ≡ true
+  pub empty-has : (at : ℕ) → find_empty width s ≡ Some at → is_empty s at ≡ true
   unfolding find_empty
   empty-has at e = first-has width (is_empty s) (length s / width) 0 at e
 
-  pub empty-within : row_bytes ≤ width → (at : ℕ) → find_empty width s ≡ At at → at + row_bytes ≤ length s
+  pub empty-within : row_bytes ≤ width → (at : ℕ) → find_empty width s ≡ Some at → at + row_bytes ≤ length s
   unfolding find_empty
   empty-within long at e = let l = whole-within width (is_empty s) s at e in omega arith
 
-  pub empty-first : (at : ℕ) → find_empty width s ≡ At at → (j : ℕ) → j * width < at → is_empty s (j * width) ≡ false
+  pub empty-first : (at : ℕ) → find_empty width s ≡ Some at → (j : ℕ) → j * width < at → is_empty s (j * width) ≡ false
   unfolding find_empty
   empty-first = whole-first width (is_empty s) s
 
-  pub empty-nowhere : find_empty width s ≡ Nowhere → (j : ℕ) → j < length s / width → is_empty s (j * width) ≡ false
+  pub empty-nowhere : find_empty width s ≡ None → (j : ℕ) → j < length s / width → is_empty s (j * width) ≡ false
   unfolding find_empty
   empty-nowhere = whole-nowhere width (is_empty s) s
 
-  pub empty-apart : (at : ℕ) → find_empty width s ≡ At at → (i : ℕ) → is_empty s (i * width) ≡ false → (i * width + width ≤ at) ⊎ (at + width ≤ i * width)
+  pub empty-apart : (at : ℕ) → find_empty width s ≡ Some at → (i : ℕ) → is_empty s (i * width) ≡ false → (i * width + width ≤ at) ⊎ (at + width ≤ i * width)
   unfolding find_empty
   empty-apart = whole_apart width (is_empty s) s

@@ -1,9 +1,8 @@
 -- The layout (document 01, Part 4), by one literal row of 96 bytes in which no two numbers are alike: what is read of it, what a row of these numbers is
 -- in bytes, and where the stores go. Two offsets exchanged in definition and code together show here.
-use Rattle.std.specs.Prelude.{ℕ, ◌≡◌, refl, List, [], ◌∷◌, ◌++◌, replicate}
+use Rattle.std.specs.Prelude.{ℕ, ◌≡◌, refl, List, [], ◌∷◌, ◌++◌, replicate, Some}
 use Rattle.words.specs.Bytes.{be_at, be_bytes, put_be}
 use Rattle.row.specs.declared.Row.{Row}
-use Rattle.row.specs.declared.reading.Place.TheVariants.{At}
 use Rattle.row.specs.Row.{row_at, key_at, before_key, step_bytes, time_bytes, render}
 use Rattle.row.specs.Table.{has_serial, first_row, find_row, find_empty, store_row, wipe_key, write_row}
 
@@ -67,11 +66,11 @@ pub layout_rendered : render literal_numbers key_literal ≡ literal_row
 unfolding render before_key step_bytes time_bytes be_bytes
 layout_rendered = refl
 
-pub layout_found : find_row 96 three_rows 0x1011121314151617 ≡ At 96
+pub layout_found : find_row 96 three_rows 0x1011121314151617 ≡ Some 96
 unfolding find_row first_row has_serial be_at
 layout_found = refl
 
-pub layout_empty : find_empty 96 three_rows ≡ At 192
+pub layout_empty : find_empty 96 three_rows ≡ Some 192
 unfolding find_empty first_row
 layout_empty = refl
 
@@ -79,11 +78,11 @@ layout_empty = refl
 abbrev pub three_wide_rows : List ℕ
 three_wide_rows = replicate 128 0xee ++ ((literal_row ++ replicate 32 0xdd) ++ replicate 128 0)
 
-pub layout_found_wide : find_row 128 three_wide_rows 0x1011121314151617 ≡ At 128
+pub layout_found_wide : find_row 128 three_wide_rows 0x1011121314151617 ≡ Some 128
 unfolding find_row first_row has_serial be_at
 layout_found_wide = refl
 
-pub layout_empty_wide : find_empty 128 three_wide_rows ≡ At 256
+pub layout_empty_wide : find_empty 128 three_wide_rows ≡ Some 256
 unfolding find_empty first_row
 layout_empty_wide = refl
 

@@ -1,6 +1,10 @@
 -- The tests of a row as the code makes them: of its numbers one after the other, and of its zeros as numbers.
-use Rattle.std.specs.Prelude.{ℕ, ◌+◌, ◌-◌, ◌≤◌, ◌≡◌, refl, Bool, true, ◌&&◌, List, [], ◌∷◌, ◌++◌, eqb, length, get_or, take, drop}
+use Rattle.std.specs.Prelude.{ℕ, ◌+◌, ◌-◌, ◌≤◌, ◌≡◌, refl, Bool, true, false, ◌&&◌, List, [], ◌∷◌, ◌++◌, Some, eqb, leb, length, get_or, take, drop}
 use Rattle.std.proofs.Common.{ap, sym, ◌∙◌, arith, length-drop, length-take-le, take-add, drop_at, drop-drop}
+use Rattle.std.specs.Ordering.{partial_le, nat_cmp}
+use Rattle.std.specs.Range.{range_inclusive_start, range_inclusive_end, range_inclusive_exhausted, range_inclusive_contains}
+use Rattle.std.specs.declared.ops.RangeInclusive.{RangeInclusive}
+use Rattle.std.proofs.lemmas.Bool.Decides.{nat_tests}
 use Rattle.words.specs.Bytes.{AreBytes, be_at, le_at, swap_bytes}
 use Rattle.words.specs.Lists.{all_zero}
 use Rattle.words.specs.BoolLaws.{and_true, and_assoc}
@@ -25,6 +29,14 @@ in_order_lem b (d ∷ bs) = in_order_lem (b && d) bs ∙ and_assoc b d (all_of b
 pub all_made_lem : (bs : List Bool) → all_made bs ≡ all_of bs
 all_made_lem [] = refl
 all_made_lem (b ∷ bs) = in_order_lem b bs
+
+-- what a range of numbers contains
+numbered : (a b : ℕ) → partial_le (λ x y. Some (nat_cmp x y)) a b ≡ leb a b
+numbered a b = grind (arith, nat_tests)
+
+pub within-range : {r : RangeInclusive ℕ} {b : Bool} {low high : ℕ} (x : ℕ) → range_inclusive_start r ≡ low → range_inclusive_end r ≡ high → range_inclusive_exhausted r ≡ false
+    → b ≡ range_inclusive_contains (λ x y. Some (nat_cmp x y)) r x → b ≡ leb low x && leb x high
+within-range {low = low} {high = high} x l h e t = t ∙ rw (l, h, e, numbered low x, numbered x high)
 
 -- ---- zeros
 

@@ -1,10 +1,10 @@
 -- The table of rows (document 01, Part 4): which row has a serial, what is read of it, and what is stored.
-use Rattle.std.specs.Prelude.{ℕ, zero, suc, ◌+◌, ◌-◌, ◌/◌, ◌^◌, ◌≤◌, Bool, ◌&&◌, cond, not, List, ◌++◌, eqb, length, get_or, set, take, drop, replicate}
+use Rattle.std.specs.Prelude.{ℕ, zero, suc, ◌+◌, ◌-◌, ◌/◌, ◌^◌, ◌≤◌, Bool, ◌&&◌, cond, not, List, ◌++◌, eqb, length, get_or, set, take, drop, replicate, Option, Some, None, Result, Ok, Err}
 use Rattle.words.specs.Bytes.{be_at, put_be}
 use Rattle.row.specs.declared.Row.{Row}
-use Rattle.row.specs.declared.reading.Place.{Place}
-use Rattle.row.specs.declared.reading.Place.TheVariants.{At, Nowhere}
 use Rattle.row.specs.declared.reading.Located.{Located}
+use Rattle.row.specs.declared.reading.Unserved.{Unserved}
+use Rattle.row.specs.declared.reading.Unserved.TheVariants.{Unknown, Damaged}
 use Rattle.row.specs.Row.{row_bytes, key_bytes, row_at, render, well_formed}
 
 -- a width that a table's rows may have: `long` gives the layout room, and `short` lets the search look four rows ahead of any place of a table without
@@ -24,10 +24,18 @@ is_empty s at = eqb (get_or s (at + 0) 0) 0
 unfoldable pub has_serial : List ℕ → ℕ → ℕ → Bool
 has_serial s serial at = not (is_empty s at) && eqb (be_at 8 s (at + 8)) serial
 
+-- the place of a row, if there is one
+abbrev pub Place : Type 0
+Place = Option ℕ
+
+-- what the search for a row to serve comes to
+abbrev pub Sought : Type 0
+Sought = Result Located Unserved
+
 -- the first of `count` rows of a width, from a place on, that passes the test
 unfoldable pub first_row : ℕ → (ℕ → Bool) → ℕ → ℕ → Place
-first_row width test zero at = Nowhere
-first_row width test (suc count) at = cond (test at) (At at) (first_row width test count (at + width))
+first_row width test zero at = None
+first_row width test (suc count) at = cond (test at) (Some at) (first_row width test count (at + width))
 
 -- the serial's row is the first one not empty that has it
 unfoldable pub find_row : ℕ → List ℕ → ℕ → Place
@@ -38,12 +46,12 @@ unfoldable pub find_empty : ℕ → List ℕ → Place
 find_empty width s = first_row width (is_empty s) (length s / width) 0
 
 -- a call goes on only with a well_formed_lem row: with its place and its numbers
-abbrev pub located_at : ℕ → List ℕ → Place → Located
-located_at highest s (At at) = cond (well_formed highest s at) (Located.At at (row_at s at)) Located.Damaged
-located_at highest s Nowhere = Located.Unknown
+abbrev pub located_at : ℕ → List ℕ → Place → Sought
+located_at highest s (Some at) = cond (well_formed highest s at) (Ok (record { at = at; row = row_at s at })) (Err Damaged)
+located_at highest s None = Err Unknown
 
 -- the serial's row in a table whose rows have a width and states up to the highest
-unfoldable pub located : ℕ → ℕ → List ℕ → ℕ → Located
+unfoldable pub located : ℕ → ℕ → List ℕ → ℕ → Sought
 located width highest s serial = located_at highest s (find_row width s serial)
 
 -- the table with next and d stored at a place

@@ -1,12 +1,11 @@
 -- What the writing of a whole row leaves, part after part.
-use Rattle.std.specs.Prelude.{ℕ, suc, ◌+◌, ◌-◌, ◌≤◌, ◌<◌, ◌≡◌, set, get_or, take, drop, replicate}
+use Rattle.std.specs.Prelude.{ℕ, suc, ◌+◌, ◌-◌, ◌≤◌, ◌≡◌, set, take, drop, replicate}
 use Rattle.std.proofs.Math.Path.{refl}
-use Rattle.std.proofs.Common.{sym, ap, ◌∙◌, add-one, arith, length-set, length-append, length-drop, drop_of_length-le, length-take-le, drop-cons, drop-drop}
-use mathlib.Core.List.{List, [], ◌∷◌, ◌++◌, append_assoc, append-nil}
+use Rattle.std.proofs.Common.{ap, ◌∙◌, arith, length-set, length-append, length-drop, length-take-le, drop-drop}
+use mathlib.Core.List.{List, [], ◌∷◌, ◌++◌, append_assoc}
 use Rattle.std.proofs.Math.Nat.{add-zero}
 use Rattle.std.proofs.Math.ListN.{length}
-use Rattle.std.proofs.lemmas.List.{length-replicate, replicate-append-replicate, set_at}
-use Rattle.std.proofs.Math.Seq.{append_snoc}
+use Rattle.std.proofs.lemmas.List.{length-replicate}
 use Rattle.words.specs.Bytes.{be_bytes, put, put_be}
 use Rattle.words.specs.BytesLaws.{put_be-put}
 use Rattle.words.specs.PutLaws.{put_nothing, put-length, put_on, put-part, set-put}
@@ -19,14 +18,6 @@ pub length-zero_filled : (key : List ℕ) → length key ≤ key_bytes → lengt
 length-zero_filled key h = rw (length-append, length-replicate {A = ℕ} (key_bytes - length key) 0) (omega arith)
 
 -- ---- zeros over a part
-
-pub clear_more : (s : List ℕ) (i : ℕ) → i < length s → set (replicate i 0 ++ drop i s) i 0 ≡ replicate (i + 1) 0 ++ drop (i + 1) s
-clear_more s i h =
-    rw (drop-cons s i 0, set_at (replicate i 0) (get_or s i 0) (drop (suc i) s) 0 i (length-replicate i 0), ← replicate-append-replicate {A = ℕ} i 1 0, add-one i)
-    (sym (append_snoc (replicate i 0) 0 (drop (suc i) s)))
-
-pub clear_end : (s : List ℕ) (i : ℕ) → i ≤ length s → length s ≤ i → replicate i 0 ++ drop i s ≡ replicate (length s) 0
-clear_end s i h l = let e : i ≡ length s = omega arith in rw (drop_of_length-le s l, e, append-nil (replicate {A = ℕ} (length s) 0))
 
 -- a part of a lent table, cleared and given back
 pub cleared : (s : List ℕ) (at n end : ℕ) {part : List ℕ} → at + n ≡ end → end ≤ length s → part ≡ replicate (length (take (end - at) (drop at s))) 0
@@ -80,7 +71,7 @@ module _ (s : List ℕ) (at : ℕ) (room : at + row_bytes ≤ length s) where
       rw add-zero at (number_behind s (sets_from 0 s at (first_bytes r)) (at + 0) (at + 8) (first_bytes r) 8 (sets_put 0 s at (first_bytes r) (omega arith)) refl (omega arith) 8 r.serial e (omega arith))
 
   pub key-written : (key : List ℕ) {t part rest : List ℕ} → length key ≤ key_bytes
-      → part ≡ take (length key) key ++ drop (length key) (take (at + 16 + length key - (at + 16)) (drop (at + 16) s))
+      → part ≡ key ++ drop (length key) (take (at + 16 + length key - (at + 16)) (drop (at + 16) s))
       → t ≡ take (at + 16) s ++ (part ++ drop (at + 16 + length key - (at + 16)) (drop (at + 16) s))
       → rest ≡ replicate (length (take (at + 48 - (at + 16 + length key)) (drop (at + 16 + length key) t))) 0
       → take (at + 16 + length key) t ++ (rest ++ drop (at + 48 - (at + 16 + length key)) (drop (at + 16 + length key) t)) ≡ put s (at + 16) (zero_filled key)

@@ -6,7 +6,6 @@ ghost use Rattle.row.specs.Table.{WidthOk, find_row, find_empty};
 ghost use Rattle.row.specs.Finding.{serial_is, passes, first_from, four_lack};
 
 use crate::layout::{SERIAL, STATE};
-use crate::reading::Place;
 use crate::states::EMPTY;
 use words::bytes::{le_eight, swapped};
 
@@ -37,7 +36,7 @@ fn passes(table: &[u8], wanted: Wanted, at: usize) -> bool
 }
 
 // The first of the rows from a place on that passes.
-fn first_of(table: &[u8], width: usize, wanted: Wanted, start: usize) -> Place
+fn first_of(table: &[u8], width: usize, wanted: Wanted, start: usize) -> Option<usize>
     requires width_ok { WidthOk width }
     requires start_in_bounds { start ≤ length table.now }
     ensures { result ≡ first_from width (passes table.now wanted) table.now start }
@@ -45,10 +44,10 @@ fn first_of(table: &[u8], width: usize, wanted: Wanted, start: usize) -> Place
     let mut at = start;
     loop {
         if table.len() < at + width {
-            break Place::Nowhere;
+            break None;
         }
         if passes(table, wanted, at) {
-            break Place::At(at);
+            break Some(at);
         }
         at += width;
     }
@@ -70,7 +69,7 @@ fn four_lack(table: &[u8], width: usize, wanted: u64, at: usize) -> bool
 }
 
 // The first row that is not empty and has the wanted serial. Rows without it are passed over by fours.
-fn first_with(table: &[u8], width: usize, wanted: u64) -> Place
+fn first_with(table: &[u8], width: usize, wanted: u64) -> Option<usize>
     requires { WidthOk width }
     ensures { result ≡ first_from width (passes table.now (Serial wanted)) table.now 0 }
 {
@@ -82,7 +81,7 @@ fn first_with(table: &[u8], width: usize, wanted: u64) -> Place
 }
 
 // The serial's row: the first one not empty that has it.
-pub fn find_row(table: &[u8], width: usize, serial: u64) -> Place
+pub fn find_row(table: &[u8], width: usize, serial: u64) -> Option<usize>
     requires { WidthOk width }
     ensures { result ≡ find_row width table.now serial }
 {
@@ -90,7 +89,7 @@ pub fn find_row(table: &[u8], width: usize, serial: u64) -> Place
 }
 
 // The first empty row.
-pub fn find_empty(table: &[u8], width: usize) -> Place
+pub fn find_empty(table: &[u8], width: usize) -> Option<usize>
     requires { WidthOk width }
     ensures { result ≡ find_empty width table.now }
 {

@@ -11,7 +11,7 @@ mod storing;
 pub use finding::{find_empty, find_row};
 pub use layout::{KEY, KEY_BYTES, ROW_BYTES};
 pub use ranges::{numbers_ok, track_ok};
-pub use reading::{Located, Place, locate};
+pub use reading::{Located, Unserved, locate};
 pub use states::{
     EMPTY, LAST_STATE, LOCKED_BY_ERRORS, LOCKED_BY_HAND, NOT_ACTIVATED, READY, SUSPENDED, VOID,
 };

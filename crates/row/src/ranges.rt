@@ -19,7 +19,7 @@ fn period_ok(track: Track) -> bool
     ensures { result ≡ period_ok track }
 {
     if track.scheme.kind == TIME_TOKEN {
-        (1 <= track.period) & (track.period <= 60)
+        (1..=60).contains(&track.period)
     } else {
         track.period == 0
     }
@@ -61,13 +61,13 @@ pub fn numbers_ok(highest: u8, row: Row) -> bool
     (row.state <= highest)
         & kind_ok(track)
         & ((scheme.algorithm == SM3) | (scheme.algorithm == SM4))
-        & ((6 <= scheme.digits) & (scheme.digits <= 10))
+        & (6..=10).contains(&scheme.digits)
         & period_ok(track)
-        & ((1 <= row.limit) & (row.limit <= 10))
-        & ((16 <= row.key_length) & (row.key_length as usize <= KEY_BYTES))
+        & (1..=10).contains(&row.limit)
+        & (16..=KEY_BYTES).contains(&(row.key_length as usize))
         & next_ok(track)
         & offset_ok(track)
-        & ((60 <= row.wait) & (row.wait <= 86400))
+        & (60..=86400).contains(&row.wait)
         & (row.expiry.0 <= CLOCKS)
         & ((row.locked_at.0 < CLOCKS) & ((row.state == LOCKED_BY_ERRORS) | (row.locked_at.0 == 0)))
         & (row.last_use.0 < CLOCKS)

@@ -13,17 +13,16 @@ use crate::ranges::numbers_ok;
 use window::{Offset, Scheme, Seconds, Step, Track};
 use words::bytes::{be_at, be_eight, le_eight, zeros};
 
-// The place of a row in the table.
+// A well-formed row's place and numbers.
 #[derive(Clone, Copy)]
-pub enum Place {
-    At(usize),
-    Nowhere,
+pub struct Located {
+    pub at: usize,
+    pub row: Row,
 }
 
-// A well-formed row's place and numbers; or that no row has the serial; or that the row is not well formed.
-#[derive(Clone, Copy)]
-pub enum Located {
-    At(usize, Row),
+// Why there is no row to serve: none has the serial, or the one that has it is not well formed.
+#[derive(Clone, Copy, Debug, PartialEq, Eq)]
+pub enum Unserved {
     Unknown,
     Damaged,
 }
@@ -70,19 +69,14 @@ fn zeros_ok(table: &[u8], at: usize) -> bool
 }
 
 // The serial's row: a call goes on only with a well-formed one.
-pub fn locate(table: &[u8], width: usize, highest: u8, serial: u64) -> Located
+pub fn locate(table: &[u8], width: usize, highest: u8, serial: u64) -> Result<Located, Unserved>
     requires { WidthOk width }
     ensures { result ≡ located width highest table.now serial }
 {
-    let Place::At(at) = find_row(table, width, serial) else {
-        return Located::Unknown;
-    };
+    let at = find_row(table, width, serial).ok_or(Unserved::Unknown)?;
     let row = row_at(table, at);
-    if !numbers_ok(highest, row) {
-        return Located::Damaged;
+    if !(numbers_ok(highest, row) && zeros_ok(table, at)) {
+        return Err(Unserved::Damaged);
     }
-    if !zeros_ok(table, at) {
-        return Located::Damaged;
-    }
-    Located::At(at, row)
+    Ok(Located { at, row })
 }

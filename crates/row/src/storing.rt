@@ -72,11 +72,7 @@ pub fn store_row(table: &mut [u8], at: usize, row: Row)
 pub fn clear(part: &mut [u8])
     ensures { part.new ≡ replicate (length part.old) 0 }
 {
-    let mut i = 0;
-    while i < part.len() {
-        part[i] = 0;
-        i += 1;
-    }
+    part.fill(0);
 }
 
 // Sets the key to zeros.

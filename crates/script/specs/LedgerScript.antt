@@ -1,10 +1,9 @@
 -- What a script prints is the ledger machine's: its answers to the script's calls and, for a line `table`, its table. This page has the statement;
 -- `LedgerScriptLaws` has the proof.
-use Rattle.std.specs.Prelude.{ℕ, ◌≡◌, cond, List, [], ◌∷◌, ◌++◌}
-use Rattle.std.specs.Prelude.{Some}
+use Rattle.token.specs.Answers.{Answer}
+use Rattle.std.specs.Prelude.{ℕ, ◌≡◌, cond, List, [], ◌∷◌, ◌++◌, Err, Some}
 use Rattle.lines.specs.Lines.{line_feed, lines_of}
 use Rattle.window.specs.PasswordAt.{PasswordRule}
-use Rattle.token.specs.declared.answers.Answer.{Answer}
 use Rattle.desk.specs.Reads.{Reads}
 use Rattle.ledger.specs.Ledger.{Entry, answer_to, table_of}
 use Rattle.call_lines.specs.Line.{reads_of, answer_text}
@@ -13,7 +12,7 @@ use Rattle.script.specs.Script.{table_text, rows_of, is_table, output_of}
 -- the machine's answer to a call; what is refused before there is one is no call
 abbrev pub ledger_answer : PasswordRule → ℕ → List Entry → Reads → Answer
 ledger_answer passwords rows history (Reads.serves call) = answer_to passwords rows history call
-ledger_answer passwords rows history (Reads.refuses refusal) = Answer.Refused refusal
+ledger_answer passwords rows history (Reads.refuses refusal) = Err refusal
 
 -- calls alone enter its history
 abbrev pub ledger_history : PasswordRule → ℕ → List Entry → Reads → List Entry

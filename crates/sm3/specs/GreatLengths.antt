@@ -1,9 +1,9 @@
 -- SM3's padding at every length, and the hash at its greatest (document 01, Part 1: 0 to 2^32 - 1 bytes), stated over the length: no message of that
 -- length is computed.
-use Rattle.std.specs.Prelude.{◌≡◌, ℕ, ◌+◌, ◌%◌, true, ◌&&◌, List, [], ◌∷◌, ◌++◌, length, replicate, ◌==◌, nat_lt, refl}
+use Rattle.std.specs.Prelude.{◌≡◌, ℕ, Ok, Err, ◌+◌, ◌%◌, true, ◌&&◌, List, [], ◌∷◌, ◌++◌, length, replicate, ◌==◌, nat_lt, refl}
 use Rattle.words.specs.Bytes.{be_bytes}
 use Rattle.words.specs.Entries.{every}
-use Rattle.sm3.specs.Sm3.{zeros_after, padded, sm3_answer}
+use Rattle.sm3.specs.Sm3.{zeros_after, padded, sm3_of, sm3_answer}
 
 -- after l bytes, the byte 80 and the fewest zeros, 8 bytes end a block of 64; the entries are the lengths from 0 to 63, modulo 64
 pub zeros_fill_block : every (λ l entry. ((l + 1 + zeros_after l + 8) % 64 == 0) && nat_lt (zeros_after l) 64) 0 (replicate 64 0) ≡ true
@@ -16,11 +16,11 @@ unfolding padded zeros_after be_bytes
 longest_padding m e = rw e refl
 
 -- 2^32 - 1 bytes are taken
-pub longest-taken : (m : List ℕ) → length m ≡ 0xffffffff → (sm3_answer m).code ≡ 0
+pub longest-taken : (m : List ℕ) → length m ≡ 0xffffffff → sm3_answer m ≡ Ok (sm3_of m)
 unfolding sm3_answer
 longest-taken m e = rw e refl
 
 -- and 2^32 bytes are refused
-pub longer-refused : (m : List ℕ) → length m ≡ 0x100000000 → (sm3_answer m).code ≡ 0x9005
+pub longer-refused : (m : List ℕ) → length m ≡ 0x100000000 → sm3_answer m ≡ Err (record {})
 unfolding sm3_answer
 longer-refused m e = rw e refl

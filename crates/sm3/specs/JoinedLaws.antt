@@ -1,10 +1,9 @@
 -- The hash of two parts: what is put together, and what is hashed where it lies.
-use Rattle.std.specs.Prelude.{◌≡◌, ℕ, ◌+◌, ◌-◌, ◌*◌, ◌/◌, ◌%◌, ◌^◌, ◌<◌, ◌≤◌, List, [], ◌++◌, length, take, drop, replicate, refl}
+use Rattle.std.specs.Prelude.{◌≡◌, ℕ, ◌+◌, ◌-◌, ◌*◌, ◌/◌, ◌%◌, ◌<◌, ◌≤◌, List, [], ◌++◌, length, take, drop, replicate, refl}
 use Rattle.std.proofs.Math.Path.{sym, ap}
 use Rattle.std.proofs.Common.{◌∙◌, append_assoc, append-nil, arith, length-append, length-take, length-drop, drop_of_length-le, take-append-drop, take_all, take_at, drop_at, drop-drop, length-take-le}
-use Rattle.std.proofs.Math.Seq.{take-length, drop-append-add}
-use Rattle.words.specs.Bytes.{be_at, be_bytes}
-use Rattle.words.specs.BytesLaws.{be_at-be_bytes, be_bytes-mod}
+use Rattle.std.proofs.Math.Seq.{drop-append-add}
+use Rattle.words.specs.Bytes.{be_bytes}
 use Rattle.words.specs.ListsLaws.{drop_zeros}
 use Rattle.sm3.specs.declared.Registers.{Registers}
 use Rattle.sm3.specs.Sm3.{padded, iterated, iv, digest, sm3_of}
@@ -12,41 +11,24 @@ use Rattle.sm3.specs.Rounds.{last_blocks, last_value, digest_from}
 use Rattle.sm3.specs.Sm3Laws.{hash_sum_of, iterated-append, digest-from_of}
 
 -- head and then body, copied to the front of a buffer
-pub join_of : (head body out : List ℕ) {n : ℕ} {copied part : List ℕ} → n ≡ length out → copied ≡ take (length head) head ++ drop (length head) out
-    → part ≡ take (length body) body ++ drop (length body) (take (n - length head) (drop (length head) copied))
+pub join_of : (head body out : List ℕ) {n : ℕ} {copied part : List ℕ} → n ≡ length out → copied ≡ head ++ drop (length head) out
+    → part ≡ body ++ drop (length body) (take (n - length head) (drop (length head) copied))
     → take (length head) copied ++ (part ++ drop (n - length head) (drop (length head) copied)) ≡ (head ++ body) ++ drop (length head + length body) out
 join_of head body out {n} {copied} {part} e p q =
     let k = length head in
-    let first : copied ≡ head ++ drop k out = p ∙ rw (take-length head) in
-    let front : take k copied ≡ head = rw first (take_at head (drop k out) k refl) in
-    let behind : drop k copied ≡ drop k out = rw first (drop_at head (drop k out) k refl) in
+    let front : take k copied ≡ head = rw p (take_at head (drop k out) k refl) in
+    let behind : drop k copied ≡ drop k out = rw p (drop_at head (drop k out) k refl) in
     let size : length (drop k out) ≤ n - k = rw (length-drop k out, e) (omega arith) in
     let all : take (n - k) (drop k out) ≡ drop k out = take_all (n - k) (drop k out) size in
     let none : drop (n - k) (drop k out) ≡ [] = drop_of_length-le (drop k out) size in
-    let then : part ≡ body ++ drop (k + length body) out = q ∙ rw (take-length body, behind, all, drop-drop (length body) k out) in
+    let then : part ≡ body ++ drop (k + length body) out = q ∙ rw (behind, all, drop-drop (length body) k out) in
     rw (front, behind, none, then, append-nil) (sym (append_assoc head body (drop (k + length body) out)))
 
 -- ---- the last four bytes of a digest
 
-last-four : (r : Registers) → drop 28 (digest r) ≡ be_bytes 4 r.h
+pub last-four : (r : Registers) (m : List ℕ) → digest r ≡ sm3_of m → be_bytes 4 r.h ≡ drop 28 (sm3_of m)
 unfolding digest be_bytes
-last-four r = refl
-
-front_long : (r : Registers) → length (take 28 (digest r)) ≡ 28
-unfolding digest be_bytes
-front_long r = refl
-
-last-read : (m : List ℕ) {d : List ℕ} {word : ℕ} → d ≡ sm3_of m → word ≡ be_at 4 d 28 → be_bytes 4 word ≡ drop 28 (sm3_of m)
-unfolding sm3_of
-last-read m {d} {word} e w =
-    let v = iterated (length (padded m) / 64) (padded m) iv in
-    let low = v.h % 256 ^ 4 in
-    let front = take 28 (digest v) in
-    let last : drop 28 (digest v) ≡ be_bytes 4 low = last-four v ∙ sym (be_bytes-mod 4 v.h) in
-    let shape : digest v ≡ front ++ (be_bytes 4 low ++ []) = sym (take-append-drop 28 (digest v)) ∙ rw (last, append-nil) in
-    let small : low < 256 ^ 4 = omega arith in
-    let word-is : word ≡ low = w ∙ rw (e, shape) (be_at-be_bytes 4 front [] 28 low (front_long v) small) in
-    rw (word-is, last)
+last-four r m e = ap (drop 28) e
 
 -- parts for which two blocks have room
 module _ (head body : List ℕ) {all : List ℕ} (put : all ≡ (head ++ body) ++ drop (length head + length body) (replicate 128 0)) where
@@ -65,12 +47,6 @@ module _ (head body : List ℕ) {all : List ℕ} (put : all ≡ (head ++ body) +
       let found : last ≡ last_value (head ++ body) = rw front at (hash_sum_of all size l few b f s e) in
       ap digest found
 
-  pub short_last : {blocks : ℕ} {filled : List ℕ} {start last : Registers} → length all ≡ 128 → size < 120 → blocks ≡ size / 64 + last_blocks size
-      → filled ≡ padded (take size all) ++ replicate {A = ℕ} (128 - 64 * blocks) 0 → start ≡ iv → last ≡ iterated blocks filled start
-      → be_bytes 4 last.h ≡ drop 28 (sm3_of (head ++ body))
-  short_last {blocks} {filled} {start} {last} l few b f s e =
-      sym (last-four last) ∙ ap (λ (d : List ℕ). drop 28 d) (short_hash l few b f s e)
-
 -- others: a block of head and the front of body, then the rest of body
 module _ (head body : List ℕ) (few : length head ≤ 64) (many : 64 ≤ length head + length body) where
   abbrev taken : ℕ
@@ -82,10 +58,10 @@ module _ (head body : List ℕ) (few : length head ≤ 64) (many : 64 ≤ length
   pub rest-length : length rest % 64 ≡ (length head + length body) % 64
   rest-length = rw (length-take, length-drop) (omega arith)
 
-  pub long_hash : {first : List ℕ} {start value : Registers} {d : List ℕ}
+  pub long_hash : {first : List ℕ} {start value : Registers} (last : Registers)
       → (let front = take (taken - 0) (drop 0 body) in first ≡ (head ++ front) ++ drop (length head + length front) (replicate 64 0))
-      → start ≡ iv → value ≡ iterated 1 first start → d ≡ digest_from value rest (length head + length body) → d ≡ sm3_of (head ++ body)
-  long_hash {first} {start} {value} {d} f s v e =
+      → start ≡ iv → value ≡ iterated 1 first start → digest last ≡ digest_from value rest (length head + length body) → digest last ≡ sm3_of (head ++ body)
+  long_hash {first} {start} {value} last f s v e =
       let m = head ++ body in
       let front = take taken body in
       let room : length head + length front ≡ 64 = rw (length-take-le taken body (omega arith)) (omega arith) in
@@ -100,9 +76,3 @@ module _ (head body : List ℕ) (few : length head ≤ 64) (many : 64 ≤ length
       ∙ sym (rw place at (drop-append-add head body taken)) in
       let long : 64 * 1 ≤ length m = rw (length-append head body) many in
       e ∙ rw (after, behind, ← length-append head body) (digest-from_of m 1 long)
-
-  pub long_last : {first : List ℕ} {start value : Registers} {d : List ℕ}
-      → (let front = take (taken - 0) (drop 0 body) in first ≡ (head ++ front) ++ drop (length head + length front) (replicate 64 0))
-      → start ≡ iv → value ≡ iterated 1 first start → d ≡ digest_from value rest (length head + length body)
-      → {word : ℕ} → word ≡ be_at 4 d 28 → be_bytes 4 word ≡ drop 28 (sm3_of (head ++ body))
-  long_last f s v e w = last-read (head ++ body) (long_hash f s v e) w

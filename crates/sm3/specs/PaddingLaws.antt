@@ -1,8 +1,7 @@
 -- Laws of SM3's padding, in the form in which the code needs them.
-use Rattle.std.specs.Prelude.{◌≡◌, ℕ, suc, ◌+◌, ◌-◌, ◌*◌, ◌/◌, ◌%◌, ◌<◌, ◌≤◌, Bool, true, false, cond, List, ◌∷◌, ◌++◌, length, take, drop, replicate, nat_lt, slice_set, refl}
+use Rattle.std.specs.Prelude.{◌≡◌, ℕ, suc, ◌+◌, ◌-◌, ◌*◌, ◌/◌, ◌%◌, ◌<◌, ◌≤◌, Bool, true, false, cond, List, ◌∷◌, ◌++◌, length, drop, replicate, nat_lt, slice_set, refl}
 use Rattle.std.proofs.Common.{◌∙◌, append_assoc, arith, lt-ltb, le-ltb, ltb-true, ltb-false, length-append}
 use Rattle.std.proofs.lemmas.List.{length-replicate, replicate-append-replicate, set_at, drop-append-le}
-use Rattle.std.proofs.Math.Seq.{take-length}
 use Rattle.words.specs.ListsLaws.{drop_zeros}
 use Rattle.words.specs.BoolLaws.{by-test}
 use Rattle.words.specs.Bytes.{be_bytes, put_be}
@@ -56,14 +55,14 @@ padded-rest m = drop-append-le (64 * (length m / 64)) m (0x80 ∷ (replicate (ze
 
 -- what the code does with its buffer: the tail copied over zeros, the byte 80, the length
 pub end_of : (tail : List ℕ) (l blocks : ℕ) {copied end : List ℕ} → length tail ≡ l % 64 → blocks ≡ last_blocks l
-    → copied ≡ take (length tail) tail ++ drop (length tail) (replicate 128 0)
+    → copied ≡ tail ++ drop (length tail) (replicate 128 0)
     → end ≡ put_be 8 (slice_set copied (length tail) 0x80) (64 * blocks - 8) (8 * l)
     → end ≡ ended tail l ++ replicate {A = ℕ} (128 - 64 * blocks) 0
 unfolding ended
 end_of tail l blocks {copied} e b p q =
     let fill : length tail + 9 + zeros_after l ≡ 64 * blocks = rw (e, b) (last_blocks_fill l) in
     let room : 64 * blocks ≤ 128 = rw b (last_blocks_fit l) in
-    let copy : copied ≡ tail ++ replicate (128 - length tail) 0 = rw (p, take-length tail, drop_zeros (length tail) 128) in
+    let copy : copied ≡ tail ++ replicate (128 - length tail) 0 = rw (p, drop_zeros (length tail) 128) in
     rw (q, copy) (end-filled tail (length tail) (zeros_after l) (64 * blocks) (8 * l) refl fill room)
 
 pub length-ended : (tail : List ℕ) (l : ℕ) → length tail ≡ l % 64 → length (ended tail l) ≡ 64 * last_blocks l

@@ -1,8 +1,9 @@
 -- How the code hashes: constants laid once, rounds by fours along with the expansion, and the last blocks. `Sm3Laws` and `PaddingLaws` show that this is the standard's.
 use Rattle.std.specs.Prelude.{◌≡◌, ℕ, zero, suc, ◌+◌, ◌*◌, ◌/◌, ◌%◌, ◌^◌, cond, List, [], ◌∷◌, ◌++◌, length, drop, replicate, nat_lt, slice_set}
 use Rattle.words.specs.Bytes.{be_bytes}
+use Rattle.words.specs.Words.{◌⊕◌, ◌⋘◌}
 use Rattle.sm3.specs.declared.Registers.{Registers}
-use Rattle.sm3.specs.Sm3.{round, next_word, iterated, zeros_after, padded, iv, digest}
+use Rattle.sm3.specs.Sm3.{constant, ff, gg, round_with, round, next_word, iterated, zeros_after, padded, iv, digest}
 
 abbrev pub constants : List ℕ
 constants =
@@ -15,6 +16,10 @@ constants =
     0x9d8a7a87 ∷ 0x3b14f50f ∷ 0x7629ea1e ∷ 0xec53d43c ∷ 0xd8a7a879 ∷ 0xb14f50f3 ∷ 0x629ea1e7 ∷ 0xc53d43ce ∷
     0x8a7a879d ∷ 0x14f50f3b ∷ 0x29ea1e76 ∷ 0x53d43cec ∷ 0xa7a879d8 ∷ 0x4f50f3b1 ∷ 0x9ea1e762 ∷ 0x3d43cec5 ∷
     []
+
+-- round j on the word W_j and the word W_j+4 ahead of it
+unfoldable pub round_on : ℕ → ℕ → ℕ → Registers → Registers
+round_on j word ahead r = round_with (ff j r.a r.b r.c) (gg j r.e r.f r.g) (constant j ⋘ (j % 32)) word (word ⊕ ahead) r
 
 -- the rounds j to j + 3
 abbrev pub four_rounds : ℕ → List ℕ → Registers → Registers

@@ -1,10 +1,9 @@
 -- The hash SM3, in the order of GB/T 32905-2016. Words are 32 bits wide, and their sums drop the carry (document 01, Part 1).
-use Rattle.std.specs.Prelude.{ℕ, zero, suc, ◌+◌, ◌-◌, ◌*◌, ◌/◌, ◌%◌, ◌^◌, cond, List, [], ◌∷◌, ◌++◌, length, replicate, bit_and, bit_or, nat_lt, slice_index, slice_index_or}
+use Rattle.std.specs.Prelude.{ℕ, zero, suc, Result, Ok, Err, ◌+◌, ◌-◌, ◌*◌, ◌/◌, ◌%◌, ◌^◌, cond, List, [], ◌∷◌, ◌++◌, length, replicate, bit_and, bit_or, nat_lt, slice_index, slice_index_or}
 use Rattle.words.specs.Bytes.{be_at, be_bytes}
-use Rattle.words.specs.Codes.{done, bad_argument}
+use Rattle.words.specs.declared.codes.BadArgument.{BadArgument}
 use Rattle.words.specs.Words.{◌⊕◌, ◌⊞◌, ◌⋘◌}
 use Rattle.sm3.specs.declared.Registers.{Registers}
-use Rattle.sm3.specs.declared.Hash.{Hash}
 
 -- ---- 4 Constants and functions
 
@@ -142,6 +141,5 @@ unfoldable pub sm3_of : List ℕ → List ℕ
 sm3_of m = let p = padded m in digest (iterated (length p / 64) p iv)
 
 -- the function's whole answer: a message of 2^32 bytes or more is a bad argument (document 01, Part 1)
-unfoldable pub sm3_answer : List ℕ → Hash
-sm3_answer m =
-    cond (nat_lt (length m) (2 ^ 32)) (record { code = done; digest = sm3_of m }) (record { code = bad_argument; digest = replicate 32 0 })
+unfoldable pub sm3_answer : List ℕ → Result (List ℕ) BadArgument
+sm3_answer m = cond (nat_lt (length m) (2 ^ 32)) (Ok (sm3_of m)) (Err (record {}))

@@ -1,5 +1,5 @@
 -- Laws of SM3, in the form in which the code's loops need them.
-use Rattle.std.specs.Prelude.{◌≡◌, ℕ, zero, suc, ◌+◌, ◌-◌, ◌*◌, ◌/◌, ◌%◌, ◌^◌, ◌<◌, ◌≤◌, List, ◌∷◌, ◌++◌, length, take, drop, set, replicate, nat_eq, nat_lt, slice_index, slice_index_or, slice_set, refl}
+use Rattle.std.specs.Prelude.{◌≡◌, ℕ, Bool, cond, Ok, Err, zero, suc, ◌+◌, ◌-◌, ◌*◌, ◌/◌, ◌%◌, ◌^◌, ◌<◌, ◌≤◌, List, ◌∷◌, ◌++◌, length, take, drop, set, replicate, nat_eq, nat_lt, slice_index, slice_index_or, slice_set, refl}
 use Rattle.std.proofs.Common.{sym, ap, ◌∙◌, append_assoc, add_assoc, add-suc, add-zero, zero-add, add-one, arith, lt-ltb, le-ltb, ltb-true, ltb-false, eqb-true, length-set, length-append, length-take, length-drop, take-append-drop, drop-drop, get_or-take, get_or-drop, get_or-set_other, take_all, length-take-le, take-suc-set}
 use Rattle.std.proofs.Math.Numerals.{add-four}
 use Rattle.std.proofs.lemmas.List.{length-replicate, replicate-append-replicate, set_at}
@@ -9,13 +9,11 @@ use Rattle.words.specs.BoolLaws.{by-test}
 use Rattle.words.specs.Entries.{entry_rule}
 use Rattle.words.specs.Bytes.{be_at, be_bytes, put_be}
 use Rattle.words.specs.BytesLaws.{be_at-agree, length-be_bytes, put_be_seam, be_bytes-split}
-use Rattle.words.specs.Codes.{done, bad_argument}
 use Rattle.words.specs.Words.{◌⊕◌, ◌⋘◌}
 use Rattle.words.specs.WordsLaws.{rotated_pair, xor_assoc}
 use Rattle.sm3.specs.declared.Registers.{Registers}
-use Rattle.sm3.specs.declared.Hash.{Hash}
 use Rattle.sm3.specs.Sm3.{constant, parity, majority, choice, ff, gg, round_with, round, rounds, next_word, expand, compressed, words_at, xored, iterated, zeros_after, padded, iv, digest, sm3_of, sm3_answer}
-use Rattle.sm3.specs.Rounds.{last_blocks, ended, digest_from, constants, four_rounds, rounds_from, grown, Reached, last_value, word_total}
+use Rattle.sm3.specs.Rounds.{last_blocks, ended, digest_from, constants, round_on, four_rounds, rounds_from, grown, Reached, last_value, word_total}
 use Rattle.sm3.specs.PaddingLaws.{last_blocks_fill, padded-rest, length-ended}
 
 -- ---- the constants: T of each round, rotated by the round's number
@@ -32,32 +30,24 @@ permuted_by_eight x n word within = ap (λ (y : ℕ). x ⊕ y) (rotated_pair x 8
 
 -- ---- rounds
 
-module _ (j x y z : ℕ) where
-  pub ff_early : j < 16 → parity x y z ≡ ff j x y z
-  unfolding ff
-  ff_early h = rw (lt-ltb j 16 h)
-
-  pub gg_early : j < 16 → parity x y z ≡ gg j x y z
-  unfolding gg
-  gg_early h = rw (lt-ltb j 16 h)
-
-  pub ff-late : 16 ≤ j → majority x y z ≡ ff j x y z
-  unfolding ff
-  ff-late h = rw (le-ltb j 16 h)
-
-  pub gg-late : 16 ≤ j → choice x y z ≡ gg j x y z
-  unfolding gg
-  gg-late h = rw (le-ltb j 16 h)
-
 -- a round from its parts, with the constant read from the table
-pub round_of : (j : ℕ) (w t : List ℕ) (r : Registers) {f g : ℕ} {q : Registers} → j < 64 → t ≡ constants
-    → f ≡ ff j r.a r.b r.c → g ≡ gg j r.e r.f r.g
-    → q ≡ round_with f g (slice_index t j) (slice_index w j) (slice_index_or w j 0 ⊕ slice_index_or w (j + 4) 0) r → q ≡ round j w r
-unfolding round
-round_of j w t r h table p q e = let k : slice_index_or t j 0 ≡ constant j ⋘ (j % 32) = rw table (constant-at j h) in rw (e, p, q, k)
+pub round_of : (j word ahead : ℕ) (t : List ℕ) (r : Registers) {early : Bool} {f g : ℕ} {q : Registers} → j < 64 → t ≡ constants → early ≡ nat_lt j 16
+    → f ≡ cond early (parity r.a r.b r.c) (majority r.a r.b r.c) → g ≡ cond early (parity r.e r.f r.g) (choice r.e r.f r.g)
+    → q ≡ round_with f g (slice_index t j) word (word ⊕ ahead) r → q ≡ round_on j word ahead r
+unfolding ff gg round_on
+round_of j word ahead t r h table e p q done = let k : slice_index t j ≡ constant j ⋘ (j % 32) = rw table (constant-at j h) in rw (done, p, q, e, k)
 
-pub table-length : {t : List ℕ} → t ≡ constants → length t ≡ 64
-table-length e = ap length e
+-- four rounds, each on its two words
+pub four_of : (j : ℕ) (w : List ℕ) (r₀ : Registers) {r₁ r₂ r₃ r₄ : Registers}
+    → r₁ ≡ round_on j (slice_index w j) (slice_index_or w (j + 4) 0) r₀ → r₂ ≡ round_on (j + 1) (slice_index w (j + 1)) (slice_index_or w (j + 5) 0) r₁
+    → r₃ ≡ round_on (j + 2) (slice_index w (j + 2)) (slice_index_or w (j + 6) 0) r₂ → r₄ ≡ round_on (j + 3) (slice_index w (j + 3)) (slice_index_or w (j + 7) 0) r₃
+    → r₄ ≡ four_rounds j w r₀
+unfolding round_on round
+four_of j w r₀ p q s t =
+    let e : j + 1 + 4 ≡ j + 5 = omega arith in
+    let f : j + 2 + 4 ≡ j + 6 = omega arith in
+    let g : j + 3 + 4 ≡ j + 7 = omega arith in
+    rw (t, s, q, p, e, f, g)
 
 pub four_more : (n j : ℕ) (w : List ℕ) (r : Registers) → four_rounds (j + n) w (rounds_from n j w r) ≡ rounds_from (n + 4) j w r
 unfolding rounds_from
@@ -149,6 +139,15 @@ reached_more i s k w₀ r₀ {w} {w'} {r} {r'} reached e p q =
       words = p ∙ rw reached.words (grown_on 4 i w₀ (s + 16));
       registers = q ∙ rw (e, kept) (four_more i s w' r₀);
     }
+
+-- the same by fours
+pub reached_next : (first k : ℕ) (w₀ : List ℕ) (r₀ : Registers) {w w' : List ℕ} {r r' : Registers} → first ≤ k → Reached (4 * (k - first)) (4 * first) w₀ r₀ w r
+    → w' ≡ grown 4 w (4 * (4 + k)) → r' ≡ four_rounds (4 * k) w' r → Reached (4 * (k + 1 - first)) (4 * first) w₀ r₀ w' r'
+reached_next first k w₀ r₀ h reached p q =
+    let i = 4 * (k - first) in
+    let n : 4 * (k + 1 - first) ≡ i + 4 = omega arith in
+    let place : 4 * (4 + k) ≡ 4 * first + 16 + i = omega arith in
+    rw n (reached_more i (4 * first) (4 * k) w₀ r₀ reached (omega arith) (rw place at p) q)
 
 -- one run of rounds after another
 pub reached_on : {i n s : ℕ} {w₀ w₁ w₂ : List ℕ} {r₀ r₁ r₂ : Registers} → Reached i s w₀ r₀ w₁ r₁ → Reached n (s + i) w₁ r₁ w₂ r₂
@@ -344,11 +343,11 @@ hash_sum_of m len {blocks} {all} {start} {last} l h b a s e =
     let room : 64 * blocks ≤ length (padded msg) = omega arith in
     e ∙ rw (a, s, iterated-append blocks (padded msg) (replicate (128 - 64 * blocks) 0) iv room, total)
 
-pub answer_hashed : (m : List ℕ) {d : List ℕ} → length m < 2 ^ 32 → d ≡ sm3_of m → ◌≡◌ {A = Hash} (record { code = done; digest = d }) (sm3_answer m)
+pub answer_hashed : (m : List ℕ) {d : List ℕ} → length m < 2 ^ 32 → d ≡ sm3_of m → Ok d ≡ sm3_answer m
 unfolding sm3_answer
 answer_hashed m h e = rw (lt-ltb (length m) (2 ^ 32) h, e)
 
-pub answer-refused : (m : List ℕ) → 2 ^ 32 ≤ length m → ◌≡◌ {A = Hash} (record { code = bad_argument; digest = replicate 32 0 }) (sm3_answer m)
+pub answer-refused : (m : List ℕ) → 2 ^ 32 ≤ length m → Err (record {}) ≡ sm3_answer m
 unfolding sm3_answer
 answer-refused m h = rw (le-ltb (length m) (2 ^ 32) h)
 

@@ -2,13 +2,12 @@
 // two are put together, so that no buffer grows with the second part.
 ghost use Rattle.std.specs.Prelude.{◌≡◌, ◌+◌, ◌^◌, ◌<◌, ◌≤◌, ◌++◌, length, drop};
 ghost use Rattle.words.specs.Bytes.{be_bytes};
-ghost use Rattle.sm3.specs.Sm3.{sm3_of};
+ghost use Rattle.sm3.specs.Sm3.{digest, sm3_of};
 
 use crate::compress::iterate;
 use crate::padding::pad;
-use crate::table::constants;
-use crate::{digest, digest_from, start};
-use words::bytes::{copy, word_at};
+use crate::{Registers, digest, last_value, start};
+use words::bytes::copy;
 
 // Puts head and then body at the front of out.
 fn join(head: &[u8], body: &[u8], out: &mut [u8])
@@ -19,31 +18,40 @@ fn join(head: &[u8], body: &[u8], out: &mut [u8])
     copy(body, &mut out[head.len()..]);
 }
 
-// Parts for which two blocks have room are padded where they are put together.
-fn short_digest(head: &[u8], body: &[u8]) -> [u8; 32]
+// The value after the last block of head and then body. Parts for which two blocks have room are padded where they are put together.
+fn short_value(head: &[u8], body: &[u8]) -> Registers
     requires { length head.now + length body.now < 120 }
-    ensures { result ≡ sm3_of (head.now ++ body.now) }
+    ensures { digest result ≡ sm3_of (head.now ++ body.now) }
 {
-    let t = constants();
     let mut all = [0u8; 128];
     join(head, body, &mut all);
     let blocks = pad(&mut all, head.len() + body.len());
-    digest(iterate(start(), &all, blocks, &t).value)
+    iterate(start(), &all, blocks).value
 }
 
 // Of others the first block is put together, and the rest of body is hashed where it lies.
-fn long_digest(head: &[u8], body: &[u8]) -> [u8; 32]
+fn long_value(head: &[u8], body: &[u8]) -> Registers
     requires head_len_bound { length head.now ≤ 64 }
     requires in_bounds { 64 ≤ length head.now + length body.now }
     requires body_len_bound { length head.now + length body.now < 2 ^ 32 }
-    ensures { result ≡ sm3_of (head.now ++ body.now) }
+    ensures { digest result ≡ sm3_of (head.now ++ body.now) }
 {
-    let t = constants();
     let taken = 64 - head.len();
     let mut first = [0u8; 64];
     join(head, &body[0..taken], &mut first);
-    let value = iterate(start(), &first, 1, &t).value;
-    digest_from(value, &body[taken..], head.len() + body.len(), &t)
+    let value = iterate(start(), &first, 1).value;
+    last_value(value, &body[taken..], head.len() + body.len())
+}
+
+fn joined_value(head: &[u8], body: &[u8]) -> Registers
+    requires head_len_bound { length head.now ≤ 64 }
+    requires len_bound { length head.now + length body.now < 2 ^ 32 }
+    ensures { digest result ≡ sm3_of (head.now ++ body.now) }
+{
+    if head.len() + body.len() < 120 {
+        return short_value(head, body);
+    }
+    long_value(head, body)
 }
 
 // The digest of head and then body.
@@ -52,38 +60,7 @@ pub fn joined_digest(head: &[u8], body: &[u8]) -> [u8; 32]
     requires len_bound { length head.now + length body.now < 2 ^ 32 }
     ensures { result ≡ sm3_of (head.now ++ body.now) }
 {
-    if head.len() + body.len() < 120 {
-        return short_digest(head, body);
-    }
-    long_digest(head, body)
-}
-
-// The same of its last four bytes alone, as a word.
-fn short_word(head: &[u8], body: &[u8]) -> u32
-    requires { length head.now + length body.now < 120 }
-    ensures { be_bytes 4 result ≡ drop 28 (sm3_of (head.now ++ body.now)) }
-{
-    let t = constants();
-    let mut both = [0u8; 128];
-    join(head, body, &mut both);
-    let blocks = pad(&mut both, head.len() + body.len());
-    let last = iterate(start(), &both, blocks, &t).value;
-    last.h
-}
-
-fn long_word(head: &[u8], body: &[u8]) -> u32
-    requires head_len_bound { length head.now ≤ 64 }
-    requires in_bounds { 64 ≤ length head.now + length body.now }
-    requires body_len_bound { length head.now + length body.now < 2 ^ 32 }
-    ensures { be_bytes 4 result ≡ drop 28 (sm3_of (head.now ++ body.now)) }
-{
-    let t = constants();
-    let taken = 64 - head.len();
-    let mut first = [0u8; 64];
-    join(head, &body[0..taken], &mut first);
-    let value = iterate(start(), &first, 1, &t).value;
-    let digest = digest_from(value, &body[taken..], head.len() + body.len(), &t);
-    word_at(&digest, 28)
+    digest(joined_value(head, body))
 }
 
 // The last four bytes of the digest of head and then body, as a word: stored in bytes and read at once, they would be waited for.
@@ -92,8 +69,5 @@ pub fn last_word(head: &[u8], body: &[u8]) -> u32
     requires body_len_bound { length head.now + length body.now < 2 ^ 32 }
     ensures { be_bytes 4 result ≡ drop 28 (sm3_of (head.now ++ body.now)) }
 {
-    if head.len() + body.len() < 120 {
-        return short_word(head, body);
-    }
-    long_word(head, body)
+    joined_value(head, body).h
 }

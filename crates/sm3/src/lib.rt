@@ -11,11 +11,11 @@ pub mod table;
 
 ghost use Rattle.std.specs.Prelude.{◌≡◌, ◌%◌, ◌^◌, ◌<◌, length};
 ghost use Rattle.sm3.specs.Sm3.{iv, digest, sm3_answer};
-ghost use Rattle.sm3.specs.Rounds.{constants, digest_from};
+ghost use Rattle.sm3.specs.Rounds.{digest_from};
 
 use compress::iterate;
 use words::bytes::put_be;
-use words::codes::{BAD_ARGUMENT, DONE};
+use words::codes::BadArgument;
 
 // The eight registers A to H, also the value V that a block changes (5.3).
 #[derive(Clone, Copy)]
@@ -28,13 +28,6 @@ pub struct Registers {
     pub f: u32,
     pub g: u32,
     pub h: u32,
-}
-
-// What hashing gives: the digest, or a code with a digest of zeros.
-#[derive(Clone, Copy)]
-pub struct Hash {
-    pub code: u16,
-    pub digest: [u8; 32],
 }
 
 // The initial value (4.1).
@@ -69,37 +62,28 @@ pub(crate) fn digest(r: Registers) -> [u8; 32]
     out
 }
 
-// The digest of a message of len bytes, from the value after its first blocks and what follows those. The last blocks are put
-// before the others are hashed: stored and read at once they would be waited for.
-pub(crate) fn digest_from(v: Registers, rest: &[u8], len: usize, t: &[u32]) -> [u8; 32]
+// The value after the last block of a message of len bytes, from the value after its first blocks and what follows those. The last
+// blocks are put before the others are hashed: stored and read at once they would be waited for.
+pub(crate) fn last_value(v: Registers, rest: &[u8], len: usize) -> Registers
     requires len_bound { len < 2 ^ 32 }
     requires rest_len { length rest.now % 64 ≡ len % 64 }
-    requires t_value { t.now ≡ constants }
-    ensures { result ≡ digest_from v rest.now len }
+    ensures { digest result ≡ digest_from v rest.now len }
 {
     let whole = rest.len() / 64;
     let blocks = padding::last_blocks(len);
     let mut end = [0u8; 128];
     padding::put_tail(&rest[64 * whole..], len, blocks, &mut end);
-    let value = iterate(v, rest, whole, t).value;
-    let last = iterate(value, &end, blocks, t).value;
-    digest(last)
+    let value = iterate(v, rest, whole).value;
+    iterate(value, &end, blocks).value
 }
 
 // The digest of a message of 0 to 2^32 - 1 bytes; a longer one is refused (document 01, Part 1).
-pub fn sm3(message: &[u8]) -> Hash
+pub fn sm3(message: &[u8]) -> Result<[u8; 32], BadArgument>
     ensures { result ≡ sm3_answer message.now }
 {
     let len = message.len();
     if 0xffff_ffff < len {
-        return Hash {
-            code: BAD_ARGUMENT,
-            digest: [0; 32],
-        };
+        return Err(BadArgument);
     }
-    let t = table::constants();
-    Hash {
-        code: DONE,
-        digest: digest_from(start(), message, len, &t),
-    }
+    Ok(digest(last_value(start(), message, len)))
 }

@@ -1,9 +1,10 @@
 // A round of the compression function (4.3, 4.4, 5.3.3), and four of them in a row.
-ghost use Rattle.std.specs.Prelude.{◌≡◌, ◌+◌, ◌<◌, ◌≤◌, length};
-ghost use Rattle.sm3.specs.Sm3.{parity, majority, choice, p0, round_with, round};
-ghost use Rattle.sm3.specs.Rounds.{constants, four_rounds};
+ghost use Rattle.std.specs.Prelude.{◌≡◌, ◌*◌, ◌<◌, cond, nat_lt};
+ghost use Rattle.sm3.specs.Sm3.{parity, majority, choice, p0, round_with};
+ghost use Rattle.sm3.specs.Rounds.{round_on, four_rounds};
 
 use crate::Registers;
+use crate::table::CONSTANTS;
 use std::num::wrapping_add_u32 as add;
 use words::word::rotate_left;
 
@@ -56,53 +57,48 @@ pub fn round_with(r: Registers, ff: u32, gg: u32, t: u32, w: u32, v: u32) -> Reg
     }
 }
 
-// One of the rounds 0 to 15; w has the expanded words, t the constants.
-fn early_round(r: Registers, j: usize, w: &[u32], t: &[u32]) -> Registers
-    requires j_bound { j < 16 }
-    requires w_len { length w.now ≡ 68 }
-    requires t_value { t.now ≡ constants }
-    ensures { result ≡ round j w.now r }
+// FF of a round, which is EARLY if it is one of the rounds 0 to 15.
+fn ff<const EARLY: bool>(x: u32, y: u32, z: u32) -> u32
+    ensures { result ≡ cond EARLY (parity x y z) (majority x y z) }
 {
-    let ff = parity(r.a, r.b, r.c);
-    let gg = parity(r.e, r.f, r.g);
-    round_with(r, ff, gg, t[j], w[j], w[j] ^ w[j + 4])
+    if EARLY {
+        parity(x, y, z)
+    } else {
+        majority(x, y, z)
+    }
 }
 
-// One of the rounds 16 to 63.
-fn late_round(r: Registers, j: usize, w: &[u32], t: &[u32]) -> Registers
-    requires le_j { 16 ≤ j }
-    requires j_bound { j < 64 }
-    requires w_len { length w.now ≡ 68 }
-    requires t_value { t.now ≡ constants }
-    ensures { result ≡ round j w.now r }
+// GG of a round.
+fn gg<const EARLY: bool>(x: u32, y: u32, z: u32) -> u32
+    ensures { result ≡ cond EARLY (parity x y z) (choice x y z) }
 {
-    let ff = majority(r.a, r.b, r.c);
-    let gg = choice(r.e, r.f, r.g);
-    round_with(r, ff, gg, t[j], w[j], w[j] ^ w[j + 4])
+    if EARLY {
+        parity(x, y, z)
+    } else {
+        choice(x, y, z)
+    }
+}
+
+// Round j, with the word W_j and the word W_j+4 ahead of it.
+pub fn round<const EARLY: bool>(r: Registers, j: usize, word: u32, ahead: u32) -> Registers
+    requires j_bound { j < 64 }
+    requires early_value { EARLY ≡ nat_lt j 16 }
+    ensures { result ≡ round_on j word ahead r }
+{
+    let left = ff::<EARLY>(r.a, r.b, r.c);
+    let right = gg::<EARLY>(r.e, r.f, r.g);
+    round_with(r, left, right, CONSTANTS[j], word, word ^ ahead)
 }
 
 // Four rounds at a time: the registers then stand where they stood, and nothing is moved.
-pub(crate) fn four_early(r: Registers, j: usize, w: &[u32], t: &[u32]) -> Registers
-    requires j_bound { j + 4 ≤ 16 }
-    requires w_len { length w.now ≡ 68 }
-    requires t_value { t.now ≡ constants }
-    ensures { result ≡ four_rounds j w.now r }
+pub(crate) fn four_rounds<const EARLY: bool>(r: Registers, k: usize, w: &[u32; 68]) -> Registers
+    requires k_bound { k < 16 }
+    requires early_value { EARLY ≡ nat_lt k 4 }
+    ensures { result ≡ four_rounds (4 * k) w.now r }
 {
-    let r1 = early_round(r, j, w, t);
-    let r2 = early_round(r1, j + 1, w, t);
-    let r3 = early_round(r2, j + 2, w, t);
-    early_round(r3, j + 3, w, t)
-}
-
-pub(crate) fn four_late(r: Registers, j: usize, w: &[u32], t: &[u32]) -> Registers
-    requires le_j { 16 ≤ j }
-    requires j_bound { j + 4 ≤ 64 }
-    requires w_len { length w.now ≡ 68 }
-    requires t_value { t.now ≡ constants }
-    ensures { result ≡ four_rounds j w.now r }
-{
-    let r1 = late_round(r, j, w, t);
-    let r2 = late_round(r1, j + 1, w, t);
-    let r3 = late_round(r2, j + 2, w, t);
-    late_round(r3, j + 3, w, t)
+    let j = 4 * k;
+    let r1 = round::<EARLY>(r, j, w[j], w[j + 4]);
+    let r2 = round::<EARLY>(r1, j + 1, w[j + 1], w[j + 5]);
+    let r3 = round::<EARLY>(r2, j + 2, w[j + 2], w[j + 6]);
+    round::<EARLY>(r3, j + 3, w[j + 3], w[j + 7])
 }

@@ -5,7 +5,6 @@ ghost use Rattle.sm3.specs.Rounds.{word_total, last_value};
 use crate::compress::iterate;
 pub use crate::padding::pad;
 use crate::start;
-use crate::table::constants;
 
 // The sum for the message in the first len bytes of m, which has zeros behind it. The message is padded where it lies.
 pub fn hash_sum(m: &mut [u8], len: usize) -> u32
@@ -14,7 +13,6 @@ pub fn hash_sum(m: &mut [u8], len: usize) -> u32
     requires m_value { drop len m.old ≡ replicate (128 - len) 0 }
     ensures { result ≡ word_total (last_value (take len m.old)) }
 {
-    let t = constants();
     let blocks = pad(m, len);
-    iterate(start(), m, blocks, &t).sum
+    iterate(start(), m, blocks).sum
 }

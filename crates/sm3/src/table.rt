@@ -1,8 +1,5 @@
-// The constants T_j of the rounds (4.2), each rotated left by j. They are laid once and lent.
-ghost use Rattle.std.specs.Prelude.{◌≡◌};
-ghost use Rattle.sm3.specs.Rounds.{constants};
-
-const CONSTANTS: [u32; 64] = [
+// The constants T_j of the rounds (4.2), each rotated left by j. They stand in one place, and are read there.
+pub static CONSTANTS: [u32; 64] = [
     0x79cc4519, 0xf3988a32, 0xe7311465, 0xce6228cb, 0x9cc45197, 0x3988a32f, 0x7311465e, 0xe6228cbc,
     0xcc451979, 0x988a32f3, 0x311465e7, 0x6228cbce, 0xc451979c, 0x88a32f39, 0x11465e73, 0x228cbce6,
     0x9d8a7a87, 0x3b14f50f, 0x7629ea1e, 0xec53d43c, 0xd8a7a879, 0xb14f50f3, 0x629ea1e7, 0xc53d43ce,
@@ -12,9 +9,3 @@ const CONSTANTS: [u32; 64] = [
     0x9d8a7a87, 0x3b14f50f, 0x7629ea1e, 0xec53d43c, 0xd8a7a879, 0xb14f50f3, 0x629ea1e7, 0xc53d43ce,
     0x8a7a879d, 0x14f50f3b, 0x29ea1e76, 0x53d43cec, 0xa7a879d8, 0x4f50f3b1, 0x9ea1e762, 0x3d43cec5,
 ];
-
-pub fn constants() -> [u32; 64]
-    ensures { result ≡ constants }
-{
-    CONSTANTS
-}

@@ -4,9 +4,9 @@ use Rattle.std.proofs.Common.{ap, ◌∙◌, zero-add, not-suc-le-zero, arith, l
 use Rattle.words.specs.BoolLaws.{by-test}
 use Rattle.words.specs.Words.{◌⊕◌, ◌⋘◌}
 use Rattle.sm3.specs.declared.Registers.{Registers}
-use Rattle.sm3.specs.Sm3.{ff, gg, p1, round_with, round, next_word, words_at, padded, iterated, iv, compressed, xored}
-use Rattle.sm3.specs.Rounds.{constants, Reached, last_value, word_total}
-use Rattle.sm3.specs.Sm3Laws.{round_of, four-grown, four-past, reached-none, reached_more, reached_on, compress_of, length-padded}
+use Rattle.sm3.specs.Sm3.{p1, round, next_word, words_at, padded, iterated, iv, compressed, xored}
+use Rattle.sm3.specs.Rounds.{round_on, Reached, last_value, word_total}
+use Rattle.sm3.specs.Sm3Laws.{four-grown, four-past, reached-none, reached_next, reached_on, compress_of, length-padded}
 use Rattle.sm3.specs.PaddingLaws.{last_blocks_one}
 use Rattle.sm3_lanes.specs.Lanes.{lane_of, Grew, registers_of, value_at, Put, Stepped, Moved, Part, AllReached, Starts, lane_sum, lane_sums}
 use Rattle.sm3_lanes.specs.LaneLaws.{length_lane, lane_get, lane_set, apart_more, apart_none}
@@ -99,12 +99,11 @@ put_eight s l r {s₁} {s₂} {s₃} {s₄} {s₅} {s₆} {s₇} {s₈} q k p₀
       rest = apart_more l s s₇ 7 r.h q a₇ p₈;
     }
 
--- a round of message l from its parts
-pub round_lane : (j l : ℕ) (w t : List ℕ) (r : Registers) {f g : ℕ} {q : Registers} → j < 64 → t ≡ constants
-    → f ≡ ff j r.a r.b r.c → g ≡ gg j r.e r.f r.g
-    → q ≡ round_with f g (slice_index t j) (slice_index w (4 * j + l)) (slice_index_or w (4 * j + l) 0 ⊕ slice_index_or w (4 * (j + 4) + l) 0) r → q ≡ round j (lane_of 68 l w) r
-round_lane j l w t r h table p q e =
-    round_of j (lane_of 68 l w) t r h table p q (e ∙ rw (lane_get 68 l w j (omega arith), lane_get 68 l w (j + 4) (omega arith)))
+-- a round of message l on its two words
+pub round_lane : (j l : ℕ) (w : List ℕ) (r : Registers) {q : Registers} → j < 64
+    → q ≡ round_on j (slice_index_or w (4 * j + l) 0) (slice_index_or w (4 * (j + 4) + l) 0) r → q ≡ round j (lane_of 68 l w) r
+unfolding round_on round
+round_lane j l w r h e = e ∙ rw (lane_get 68 l w j (omega arith), lane_get 68 l w (j + 4) (omega arith))
 
 -- ---- four rounds of message l, then of all
 
@@ -146,15 +145,16 @@ part_more m j s w s₁ w₁ s₂ w₂ q part step =
 pub part-all : (m j : ℕ) (s w s' w' : List ℕ) → 4 ≤ m → Part m j s w s' w' → Moved j s w s' w'
 part-all m j s w s' w' h part = record { each = λ k p. part.done k (omega arith) p }
 
--- ---- i rounds of all, from round b on
+-- ---- the rounds of all by fours, from round 4 b on
 
-pub all_none : (b : ℕ) (s w : List ℕ) → AllReached 0 b s w s w
-all_none b s w = record { each = λ k p. reached-none b (lane_of 68 k w) (value_at k s) }
+pub all_none : (b : ℕ) (s w : List ℕ) → AllReached (4 * (b - b)) (4 * b) s w s w
+all_none b s w = let e : 4 * (b - b) ≡ 0 = omega arith in rw e (record { each = λ k p. reached-none (4 * b) (lane_of 68 k w) (value_at k s) })
 
-pub all_more : (i b j : ℕ) (s w s₁ w₁ s₂ w₂ : List ℕ) → j ≡ b + i → AllReached i b s w s₁ w₁ → Moved j s₁ w₁ s₂ w₂ → AllReached (i + 4) b s w s₂ w₂
-all_more i b j s w s₁ w₁ s₂ w₂ e reached moved =
-    let place : 16 + j ≡ b + 16 + i = omega arith in
-    record { each = λ k p. reached_more i b j (lane_of 68 k w) (value_at k s) (reached.each k p) e ((moved.each k p).0 ∙ rw place) (moved.each k p).1 }
+pub all_more : (b i : ℕ) (s w s₁ w₁ s₂ w₂ : List ℕ) → b ≤ i → AllReached (4 * (i - b)) (4 * b) s w s₁ w₁ → Moved (4 * i) s₁ w₁ s₂ w₂
+    → AllReached (4 * (i + 1 - b)) (4 * b) s w s₂ w₂
+all_more b i s w s₁ w₁ s₂ w₂ h reached moved =
+    let place : 16 + 4 * i ≡ 4 * (4 + i) = omega arith in
+    record { each = λ k p. reached_next b i (lane_of 68 k w) (value_at k s) h (reached.each k p) (rw place at (moved.each k p).0) (moved.each k p).1 }
 
 -- ---- from messages to sums
 

@@ -5,26 +5,23 @@ mod messages;
 mod rounds;
 mod values;
 
-ghost use Rattle.std.specs.Prelude.{◌≡◌, length};
+ghost use Rattle.std.specs.Prelude.{◌≡◌};
 ghost use Rattle.sm3_lanes.specs.Lanes.{lane_sums};
 
 pub use messages::{add_block, put_four};
-use rounds::{early_rounds, last_rounds, late_rounds};
+use rounds::rounds;
 use sm3::start;
-use sm3::table::constants;
 use values::{spread, sum_at};
 
 // The sums of the words of the four hashes, without the carry. The words of the messages' blocks have been put there.
-pub fn four_sums(w: &mut [u32]) -> [u32; 4]
-    requires { length w.old ≡ 272 }
+pub fn four_sums(w: &mut [u32; 272]) -> [u32; 4]
     ensures { result ≡ lane_sums w.old }
 {
-    let t = constants();
     let v = start();
     let mut s = spread(v);
-    early_rounds(&mut s, w, &t);
-    late_rounds(&mut s, w, &t);
-    last_rounds(&mut s, w, &t);
+    rounds::<true, true>(&mut s, w, 0, 4);
+    rounds::<false, true>(&mut s, w, 4, 13);
+    rounds::<false, false>(&mut s, w, 13, 16);
     [
         sum_at(&s, 0, v),
         sum_at(&s, 1, v),

@@ -1,5 +1,5 @@
 // The words of the messages: word i of message l stands at 4 i + l.
-ghost use Rattle.std.specs.Prelude.{◌≡◌, ◌+◌, ◌*◌, ◌<◌, ◌≤◌, length, slice_set};
+ghost use Rattle.std.specs.Prelude.{◌≡◌, ◌+◌, ◌*◌, ◌<◌, ◌≤◌, length, nat_lt, slice_set};
 ghost use Rattle.sm3.specs.Sm3.{next_word};
 ghost use Rattle.sm3_lanes.specs.Lanes.{lane_of, Across, among, raised, Added, Grew};
 
@@ -9,11 +9,10 @@ use words::bytes::word_at;
 use words::word::rotate_left;
 
 // W_j of message l from the words before it.
-fn next_word(w: &[u32], j: usize, l: usize) -> u32
+fn next_word(w: &[u32; 272], j: usize, l: usize) -> u32
     requires le_j { 16 ≤ j }
     requires j_bound { j < 68 }
     requires l_bound { l < 4 }
-    requires w_len { length w.now ≡ 272 }
     ensures { result ≡ next_word (lane_of 68 l w.now) j }
 {
     let first = w[4 * (j - 16) + l] ^ w[4 * (j - 9) + l] ^ rotate_left(w[4 * (j - 3) + l], 15);
@@ -21,25 +20,26 @@ fn next_word(w: &[u32], j: usize, l: usize) -> u32
 }
 
 // Stores W_j of message l.
-fn grow(w: &mut [u32], j: usize, l: usize)
+fn grow(w: &mut [u32; 272], j: usize, l: usize)
     requires le_j { 16 ≤ j }
     requires j_bound { j < 68 }
     requires l_bound { l < 4 }
-    requires w_len { length w.old ≡ 272 }
     ensures { w.new ≡ slice_set w.old (4 * j + l) (next_word (lane_of 68 l w.old) j) }
 {
-    let next = next_word(w, j, l);
-    w[4 * j + l] = next;
+    w[4 * j + l] = next_word(w, j, l);
 }
 
-// Stores W_j to W_j+3 of message l.
-pub(crate) fn grow_four(w: &mut [u32], j: usize, l: usize)
-    requires le_j { 16 ≤ j }
-    requires j_bound { j + 4 ≤ 68 }
+// Stores W_4k to W_4k+3 of message l. Past the last word there is nothing to store: there GROWS is false.
+pub(crate) fn grow_four<const GROWS: bool>(w: &mut [u32; 272], k: usize, l: usize)
+    requires le_k { 4 ≤ k }
+    requires grows_value { GROWS ≡ nat_lt k 17 }
     requires l_bound { l < 4 }
-    requires w_len { length w.old ≡ 272 }
-    ensures { Grew l j w.old w.new }
+    ensures { Grew l (4 * k) w.old w.new }
 {
+    if !GROWS {
+        return;
+    }
+    let j = 4 * k;
     grow(w, j, l);
     grow(w, j + 1, l);
     grow(w, j + 2, l);
@@ -47,9 +47,8 @@ pub(crate) fn grow_four(w: &mut [u32], j: usize, l: usize)
 }
 
 // Puts word j of each message.
-pub fn put_four(w: &mut [u32], j: usize, a: u32, b: u32, c: u32, d: u32)
-    requires j_bound { j < 68 }
-    requires w_len { length w.old ≡ 272 }
+pub fn put_four(w: &mut [u32; 272], j: usize, a: u32, b: u32, c: u32, d: u32)
+    requires { j < 68 }
     ensures { Across j (among a b c d) w.old w.new }
 {
     let at = 4 * j;
@@ -60,9 +59,8 @@ pub fn put_four(w: &mut [u32], j: usize, a: u32, b: u32, c: u32, d: u32)
 }
 
 // Adds x to word j of each message, without the carry.
-fn add_word(w: &mut [u32], j: usize, x: u32)
-    requires j_bound { j < 68 }
-    requires w_len { length w.old ≡ 272 }
+fn add_word(w: &mut [u32; 272], j: usize, x: u32)
+    requires { j < 68 }
     ensures { Across j (raised x j w.old) w.old w.new }
 {
     let at = 4 * j;
@@ -74,14 +72,11 @@ fn add_word(w: &mut [u32], j: usize, x: u32)
 }
 
 // Adds the sixteen words of a block to those of each message.
-pub fn add_block(w: &mut [u32], m: &[u8])
-    requires w_len { length w.old ≡ 272 }
-    requires in_bounds { 64 ≤ length m.now }
+pub fn add_block(w: &mut [u32; 272], m: &[u8])
+    requires { 64 ≤ length m.now }
     ensures { Added 16 m.now w.old w.new }
 {
-    let mut j = 0;
-    while j < 16 {
+    for j in 0..16 {
         add_word(w, j, word_at(m, 4 * j));
-        j += 1;
     }
 }

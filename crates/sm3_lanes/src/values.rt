@@ -1,5 +1,5 @@
 // The values of the messages, word i of message l at 4 i + l too.
-ghost use Rattle.std.specs.Prelude.{◌≡◌, ◌<◌, length};
+ghost use Rattle.std.specs.Prelude.{◌≡◌, ◌<◌};
 ghost use Rattle.sm3.specs.Sm3.{xored};
 ghost use Rattle.sm3.specs.Rounds.{word_total};
 ghost use Rattle.sm3_lanes.specs.Lanes.{value_at, Put, Starts};
@@ -8,9 +8,8 @@ use sm3::Registers;
 use sm3::compress::{word_sum, xored};
 
 // The value of message l.
-pub(crate) fn value_at(s: &[u32], l: usize) -> Registers
-    requires l_bound { l < 4 }
-    requires s_len { length s.now ≡ 32 }
+pub(crate) fn value_at(s: &[u32; 32], l: usize) -> Registers
+    requires { l < 4 }
     ensures { result ≡ value_at l s.now }
 {
     Registers {
@@ -25,9 +24,8 @@ pub(crate) fn value_at(s: &[u32], l: usize) -> Registers
     }
 }
 
-pub(crate) fn put_value(s: &mut [u32], l: usize, r: Registers)
-    requires l_bound { l < 4 }
-    requires s_len { length s.old ≡ 32 }
+pub(crate) fn put_value(s: &mut [u32; 32], l: usize, r: Registers)
+    requires { l < 4 }
     ensures { Put l r s.old s.new }
 {
     s[l] = r.a;
@@ -42,8 +40,7 @@ pub(crate) fn put_value(s: &mut [u32], l: usize, r: Registers)
 
 // The value v for each of the four messages.
 pub(crate) fn spread(v: Registers) -> [u32; 32]
-    ensures result_len { length result ≡ 32 }
-    ensures starts { Starts v result }
+    ensures { Starts v result }
 {
     [
         v.a, v.a, v.a, v.a, v.b, v.b, v.b, v.b, v.c, v.c, v.c, v.c, v.d, v.d, v.d, v.d, v.e, v.e,
@@ -52,9 +49,8 @@ pub(crate) fn spread(v: Registers) -> [u32; 32]
 }
 
 // The sum of the words of message l's value after the rounds, which v began.
-pub(crate) fn sum_at(s: &[u32], l: usize, v: Registers) -> u32
-    requires l_bound { l < 4 }
-    requires s_len { length s.now ≡ 32 }
+pub(crate) fn sum_at(s: &[u32; 32], l: usize, v: Registers) -> u32
+    requires { l < 4 }
     ensures { result ≡ word_total (xored (value_at l s.now) v) }
 {
     word_sum(xored(value_at(s, l), v))

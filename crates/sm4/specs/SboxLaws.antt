@@ -3,7 +3,13 @@ use Rattle.std.specs.Prelude.{ℕ, ◌<◌, ◌≡◌, refl, Bool, true, ◌&&�
 use Rattle.std.proofs.Common.{sym, ap, ◌∙◌, ltb-true, eqb-true}
 use Rattle.words.specs.BoolLaws.{and_left, and_right}
 use Rattle.words.specs.Entries.{every, entry_rule}
+use Rattle.sm4.specs.declared.parameters.TheConstants.{SBOX}
 use Rattle.sm4.specs.Sbox.{sbox, substitute, place_in, place, HeldOnce}
+
+-- the code's table is the standard's
+pub table-sbox : SBOX ≡ sbox
+unfolding sbox
+table-sbox = refl
 
 pub sbox-length : length sbox ≡ 256
 unfolding sbox

@@ -1,13 +1,10 @@
 -- SM4, in the order of GB/T 32907.
-use Rattle.std.specs.Prelude.{ℕ, zero, suc, ◌+◌, ◌*◌, ◌/◌, ◌%◌, ◌^◌, cond, ◌&&◌, List, [], ◌∷◌, ◌++◌, eqb, length, get_or, replicate}
+use Rattle.std.specs.Prelude.{ℕ, zero, suc, Result, Ok, Err, ◌+◌, ◌*◌, ◌/◌, ◌%◌, ◌^◌, cond, ◌&&◌, List, [], ◌∷◌, ◌++◌, eqb, length, get_or}
 use Rattle.words.specs.Words.{◌⊕◌, ◌⋘◌}
 use Rattle.words.specs.Bytes.{be_at, be_bytes}
-use Rattle.words.specs.Codes.{done, bad_argument}
+use Rattle.words.specs.declared.codes.BadArgument.{BadArgument}
 use Rattle.sm4.specs.Sbox.{substitute}
 use Rattle.sm4.specs.declared.round.Quad.{Quad}
-use Rattle.sm4.specs.declared.schedule.Keys.{Keys}
-use Rattle.sm4.specs.declared.encryption.Cipher.{Cipher}
-use Rattle.sm4.specs.declared.chaining.CipherWords.{CipherWords}
 use Rattle.sm4.specs.declared.chaining.First.{First}
 
 -- a word from its four bytes
@@ -89,39 +86,24 @@ round_keys key = keys_from 32 0 (masked (words_of key))
 unfoldable pub sm4_of : List ℕ → List ℕ → List ℕ
 sm4_of key block = encrypt_with (round_keys key) block
 
--- ---- what the functions answer: a length other than the standard's is a bad argument, and the array is then all zeros
+-- ---- what the functions answer: a length other than the standard's is a bad argument
 
-abbrev pub keys_refused : Keys
-keys_refused = record { code = bad_argument; words = replicate 32 0 }
+unfoldable pub keys_answer : List ℕ → Result (List ℕ) BadArgument
+keys_answer key = cond (eqb (length key) 16) (Ok (round_keys key)) (Err (record {}))
 
-unfoldable pub keys_answer : List ℕ → Keys
-keys_answer key = cond (eqb (length key) 16) (record { code = done; words = round_keys key }) keys_refused
+unfoldable pub encrypt_answer : List ℕ → List ℕ → Result (List ℕ) BadArgument
+encrypt_answer ks block = cond (eqb (length ks) 32 && eqb (length block) 16) (Ok (encrypt_with ks block)) (Err (record {}))
 
-abbrev pub cipher_refused : Cipher
-cipher_refused = record { code = bad_argument; block = replicate 16 0 }
-
-unfoldable pub encrypt_answer : List ℕ → List ℕ → Cipher
-encrypt_answer ks block =
-    cond (eqb (length ks) 32 && eqb (length block) 16) (record { code = done; block = encrypt_with ks block }) cipher_refused
-
-unfoldable pub sm4_answer : List ℕ → List ℕ → Cipher
-sm4_answer key block =
-    cond (eqb (length key) 16 && eqb (length block) 16) (record { code = done; block = sm4_of key block }) cipher_refused
+unfoldable pub sm4_answer : List ℕ → List ℕ → Result (List ℕ) BadArgument
+sm4_answer key block = cond (eqb (length key) 16 && eqb (length block) 16) (Ok (sm4_of key block)) (Err (record {}))
 
 -- ---- the same with the output as words, for a chain of blocks
 
-abbrev pub no_words : Quad
-no_words = record { a = 0; b = 0; c = 0; d = 0 }
-
 -- a block of four words under round keys
-unfoldable pub encrypt_words_answer : List ℕ → Quad → CipherWords
-encrypt_words_answer ks block =
-    cond (eqb (length ks) 32) (record { code = done; output = words_of (reversed (steps linear ks 32 block)) }) (record { code = bad_argument; output = no_words })
-
-abbrev pub first_refused : First
-first_refused = record { code = bad_argument; keys = replicate 32 0; output = no_words }
+unfoldable pub encrypt_words_answer : List ℕ → Quad → Result Quad BadArgument
+encrypt_words_answer ks block = cond (eqb (length ks) 32) (Ok (words_of (reversed (steps linear ks 32 block)))) (Err (record {}))
 
 -- a chain's first block under a key, with the round keys for the others
-unfoldable pub first_answer : List ℕ → List ℕ → First
+unfoldable pub first_answer : List ℕ → List ℕ → Result First BadArgument
 first_answer key block =
-    cond (eqb (length key) 16 && eqb (length block) 16) (record { code = done; keys = round_keys key; output = words_of (sm4_of key block) }) first_refused
+    cond (eqb (length key) 16 && eqb (length block) 16) (Ok (record { keys = round_keys key; output = words_of (sm4_of key block) })) (Err (record {}))

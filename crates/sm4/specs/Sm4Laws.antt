@@ -9,6 +9,7 @@ use Rattle.words.specs.Entries.{every, entry_rule}
 use Rattle.sm4.specs.Sbox.{substitute}
 use Rattle.sm4.specs.SboxLaws.{sbox-byte}
 use Rattle.sm4.specs.Sm4.{word, tau, linear, linear_key, round, step, steps, words_of, masked, ck_byte, ck, cks_from, cks, keys_from, round_keys}
+use Rattle.sm4.specs.declared.parameters.TheConstants.{CK}
 use Rattle.sm4.specs.declared.round.Quad.{Quad}
 
 -- ---- words below 2^32
@@ -85,6 +86,11 @@ steps-add lin ks i (suc n) q = rw (add-suc, get_or-drop, steps-add lin ks i n q)
 
 -- ---- the round keys
 
+-- the code's table is the standard's
+pub table-cks : CK ≡ cks
+unfolding cks cks_from ck ck_byte word
+table-cks = refl
+
 pub cks-length : length cks ≡ 32
 unfolding cks cks_from
 cks-length = refl
@@ -100,6 +106,9 @@ cks_pass = refl
 pub cks-at : (i : ℕ) → i < 32 → get_or cks i 0 ≡ ck i
 unfolding ck-test
 cks-at i h = eqb-true (get_or cks i 0) (ck i) (entry_rule ck-test cks cks_pass i (rw cks-length h))
+
+pub table-at : (i : ℕ) → i < 32 → get_or CK i 0 ≡ ck i
+table-at i h = ap (λ (t : List ℕ). get_or t i 0) table-cks ∙ cks-at i h
 
 pub length-keys_from : (n i : ℕ) (q : Quad) → length (keys_from n i q) ≡ n
 unfolding keys_from

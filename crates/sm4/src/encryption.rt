@@ -1,28 +1,10 @@
 // The encryption of a block (GB/T 32907, 7.1).
 ghost use Rattle.std.specs.Prelude.{◌≡◌};
-ghost use Rattle.sm4.specs.Sm4.{reversed, cipher_refused, encrypt_answer};
+ghost use Rattle.sm4.specs.Sm4.{reversed, encrypt_answer};
 
-use crate::parameters::sbox;
 use crate::round::{Quad, rounds, words_of};
 use words::bytes::put_be;
-use words::codes::{BAD_ARGUMENT, DONE};
-
-// The encrypted block, or the code that refuses the arguments, with all bytes zero.
-#[derive(Clone, Copy)]
-pub struct Cipher {
-    pub code: u16,
-    pub block: [u8; 16],
-}
-
-// The answer to a length other than the standard's.
-pub(crate) fn refused() -> Cipher
-    ensures { result ≡ cipher_refused }
-{
-    Cipher {
-        code: BAD_ARGUMENT,
-        block: [0u8; 16],
-    }
-}
+use words::codes::BadArgument;
 
 // The reverse transformation R: the last word first.
 pub(crate) fn reversed(q: Quad) -> [u8; 16]
@@ -37,19 +19,11 @@ pub(crate) fn reversed(q: Quad) -> [u8; 16]
 }
 
 // A block of 16 bytes under 32 round keys.
-pub fn encrypt(keys: &[u32], block: &[u8]) -> Cipher
+pub fn encrypt(keys: &[u32], block: &[u8]) -> Result<[u8; 16], BadArgument>
     ensures { result ≡ encrypt_answer keys.now block.now }
 {
-    if keys.len() != 32 {
-        return refused();
+    if (keys.len() != 32) | (block.len() != 16) {
+        return Err(BadArgument);
     }
-    if block.len() != 16 {
-        return refused();
-    }
-    let table = sbox();
-    let out = reversed(rounds(&table, keys, words_of(block)));
-    Cipher {
-        code: DONE,
-        block: out,
-    }
+    Ok(reversed(rounds(keys, words_of(block))))
 }

@@ -8,8 +8,8 @@ pub mod round;
 pub mod schedule;
 pub mod sides;
 
-pub use chaining::{CipherWords, First, encrypt_words, first_block};
-pub use encryption::{Cipher, encrypt};
+pub use chaining::{First, encrypt_words, first_block};
+pub use encryption::encrypt;
 pub use round::Quad;
-pub use schedule::{Keys, round_keys};
+pub use schedule::round_keys;
 pub use sides::sm4;

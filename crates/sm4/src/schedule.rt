@@ -1,18 +1,10 @@
 // The key schedule (GB/T 32907, 7.3).
-ghost use Rattle.std.specs.Prelude.{◌≡◌};
-ghost use Rattle.sm4.specs.Sbox.{sbox};
-ghost use Rattle.sm4.specs.Sm4.{cks, masked, keys_from, keys_answer};
+ghost use Rattle.std.specs.Prelude.{◌≡◌, ◌<◌, length, slice_set};
+ghost use Rattle.sm4.specs.Sm4.{linear_key, step, ck, masked, keys_answer};
 
-use crate::parameters::{constants, sbox};
-use crate::round::{Quad, key_step, words_of};
-use words::codes::{BAD_ARGUMENT, DONE};
-
-// The round keys, or the code that refuses a key, with all words zero.
-#[derive(Clone, Copy)]
-pub struct Keys {
-    pub code: u16,
-    pub words: [u32; 32],
-}
+use crate::parameters::CK;
+use crate::round::{Expansion, Quad, words_of};
+use words::codes::BadArgument;
 
 // K_0 .. K_3: the words of a key with the system parameters FK (b)).
 pub fn masked(q: Quad) -> Quad
@@ -26,35 +18,29 @@ pub fn masked(q: Quad) -> Quad
     }
 }
 
-// The 32 round keys: the last word after each step.
-fn keys_from(table: &[u8], ck: &[u32], q: Quad) -> [u32; 32]
-    requires table_value { table.now ≡ sbox }
-    requires ck_value { ck.now ≡ cks }
-    ensures { result ≡ keys_from 32 0 q }
+// Step i of the schedule (a)). The last word, which is round key i, is stored.
+pub fn next_key(q: Quad, i: usize, keys: &mut [u32]) -> Quad
+    requires i_bound { i < 32 }
+    requires keys_len { length keys.old ≡ 32 }
+    ensures value { result ≡ step linear_key (ck i) q }
+    ensures keys_after { keys.new ≡ slice_set keys.old i result.d }
 {
-    let mut words = [0u32; 32];
-    let mut s = q;
-    let mut i = 0;
-    while i < 32 {
-        s = key_step(table, s, ck[i]);
-        words[i] = s.d;
-        i += 1;
-    }
-    words
+    let next = q.step::<Expansion>(CK[i]);
+    keys[i] = next.d;
+    next
 }
 
 // The round keys of a key of 16 bytes.
-pub fn round_keys(key: &[u8]) -> Keys
+pub fn round_keys(key: &[u8]) -> Result<[u32; 32], BadArgument>
     ensures { result ≡ keys_answer key.now }
 {
     if key.len() != 16 {
-        return Keys {
-            code: BAD_ARGUMENT,
-            words: [0u32; 32],
-        };
+        return Err(BadArgument);
     }
-    let table = sbox();
-    let ck = constants();
-    let words = keys_from(&table, &ck, masked(words_of(key)));
-    Keys { code: DONE, words }
+    let mut keys = [0u32; 32];
+    let mut k = masked(words_of(key));
+    for i in 0..32 {
+        k = next_key(k, i, &mut keys);
+    }
+    Ok(keys)
 }

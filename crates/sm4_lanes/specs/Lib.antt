@@ -1,3 +1,2 @@
 -- Several SM4 blocks side by side.
-pub mod Lanes
 pub mod LanesLaws

@@ -2,13 +2,8 @@
 // For the proved layers above: they give the lengths that these functions require.
 #![tactic(auto)]
 
-mod first;
-mod five;
-mod state;
-mod three;
-mod two;
+mod fresh;
+mod rounds;
 
-pub use first::first_three;
-pub use five::{Five, five_blocks};
-pub use three::{Three, three_blocks};
-pub use two::{Two, two_blocks};
+pub use fresh::first_each;
+pub use rounds::rounds_each;

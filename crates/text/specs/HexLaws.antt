@@ -4,16 +4,16 @@ use Rattle.std.proofs.Common.{sym, ◌∙◌, append-nil, add-one, drop_of_lengt
 use native.Mathlib.Omega.{arith}
 use borrow.Author.Tests.{eq-eqb, ne_eqb, le-leb, lt-leb, leb-true, not-true, not-false}
 use Rattle.std.proofs.lemmas.List.{length-map}
-use Rattle.std.proofs.Math.Seq.{append_snoc, take-length, take-append_seam, drop-append_seam}
+use Rattle.std.proofs.Math.Seq.{append_snoc, take-append_seam, drop-append_seam}
 use Rattle.words.specs.ListsLaws.{drop-replicate}
 use Rattle.words.specs.BoolLaws.{and_left, and_right, and_true, and_false, and_assoc, by-test}
 use Rattle.text.specs.Text.{digit_value, decoded, decoded_of, hex_left, put_front, hex_into}
 use Rattle.text.specs.Steps.{all_hex, pairs_of}
 use Rattle.text.specs.TextLaws.{hex_is, length_pairs}
 
-pub digits-padded : (s : List ℕ) {digits : List ℕ} → digits ≡ take (length s) s ++ drop (length s) (replicate 64 0x30)
+pub digits-padded : (s : List ℕ) {digits : List ℕ} → digits ≡ s ++ drop (length s) (replicate 64 0x30)
     → digits ≡ s ++ replicate (64 - length s) 0x30
-digits-padded s e = e ∙ rw (take-length s, drop-replicate (length s) 64 0x30)
+digits-padded s e = e ∙ rw (drop-replicate (length s) 64 0x30)
 
 -- one more digit is valued
 pub values_more : (digits values : List ℕ) (i : ℕ) {d : ℕ} → i < length digits → i < length values → d ≡ digit_value (slice_index digits i)

@@ -24,7 +24,8 @@ pub fn field_at(line: &[u8], start: usize) -> Field
     Field { start, end }
 }
 
-// The first field of the line, and what stands behind the comma that ends it.
+// The first field of the line, and what stands behind the comma that ends it. Inlined, since two slices are returned in memory.
+#[inline(always)]
 pub fn first_field(line: &[u8]) -> (&[u8], Option<&[u8]>)
     ensures last { IfNone result.1 (fields_of line.now ≡ result.0.now ∷ []) }
     ensures more { IfSome result.1 (λ rest. fields_of line.now ≡ result.0.now ∷ fields_of rest.now) }

@@ -43,6 +43,7 @@ fn find_each(s: &[u8], from: usize, to: usize, b: u8) -> usize
 }
 
 // The place of the first b from `from` up to, not including, `to`; `to` where there is none.
+#[inline(always)]
 pub fn find(s: &[u8], from: usize, to: usize, b: u8) -> usize
     requires from_le_to { from ≤ to }
     requires to_in_bounds { to ≤ length s.now }
@@ -50,7 +51,7 @@ pub fn find(s: &[u8], from: usize, to: usize, b: u8) -> usize
     ensures upper_bound { result ≤ to }
 {
     let mut at = from;
-    // A step is eight bytes, and the last few are left: a range by `step_by` has no end to say so plainly.
+    // Eight bytes a step; a range by `step_by` would want the last start, and that may lie below 0.
     while at + 8 <= to {
         let found = marks(s, at, b);
         if found != 0 {

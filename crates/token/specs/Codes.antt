@@ -1,10 +1,10 @@
 -- The numbers and values that document 01 gives to each answer, and document 02 to those that it adds.
-use Rattle.std.specs.Prelude.{ℕ, ◌-◌, cond, List, [], ◌∷◌, leb}
+use Rattle.token.specs.Answers.{Answer}
+use Rattle.std.specs.Prelude.{ℕ, ◌-◌, cond, List, [], ◌∷◌, leb, Ok, Err}
 use Rattle.window.specs.declared.Offset.{Offset}
 use Rattle.window.specs.Window.{farthest}
 use Rattle.token.specs.declared.answers.Content.{Content}
 use Rattle.token.specs.declared.answers.Refusal.{Refusal}
-use Rattle.token.specs.declared.answers.Answer.{Answer}
 
 abbrev pub refusal_number : Refusal → ℕ
 refusal_number Refusal.BadMessage = 0x9001
@@ -30,8 +30,8 @@ refusal_number Refusal.Wrong = 0x8102
 refusal_number Refusal.WrongAtSync = 0x8105
 
 abbrev pub number_of : Answer → ℕ
-number_of (Answer.Success number content) = number
-number_of (Answer.Refused refusal) = refusal_number refusal
+number_of (Ok success) = success.number
+number_of (Err refusal) = refusal_number refusal
 
 -- a signed number, as d is
 pub data Signed : Type 0 where

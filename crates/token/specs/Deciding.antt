@@ -1,6 +1,7 @@
--- What a request does with one well_formed_lem row (document 01, Part 5 and "What a turned-down call says"): the answer, and what is left of the
+-- What a request does with one well-formed row (document 01, Part 5 and "What a turned-down call says"): the answer, and what is left of the
 -- row. The check's outcome is a parameter, and so is the password rule: a request rests on no cipher.
-use Rattle.std.specs.Prelude.{ℕ, cond, List, leb}
+use Rattle.token.specs.Answers.{successful}
+use Rattle.std.specs.Prelude.{ℕ, cond, List, leb, Err}
 use Rattle.window.specs.declared.Track.{Track}
 use Rattle.window.specs.declared.Outcome.{Outcome}
 use Rattle.window.specs.declared.asked.Asked.{Asked}
@@ -9,13 +10,11 @@ use Rattle.window.specs.Asked.{outcome_of}
 use Rattle.row.specs.declared.Row.{Row}
 use Rattle.token.specs.declared.answers.Content.{Content}
 use Rattle.token.specs.declared.answers.Refusal.{Refusal}
-use Rattle.token.specs.declared.answers.Answer.{Answer}
 use Rattle.token.specs.declared.lines.Request.{Request}
 use Rattle.token.specs.declared.lines.Fails.{Fails}
 use Rattle.token.specs.declared.lines.Way.{Way}
 use Rattle.token.specs.declared.lines.After.{After}
 use Rattle.token.specs.declared.lines.Line.{Line}
-use Rattle.token.specs.declared.deciding.Key.{Key}
 use Rattle.token.specs.declared.deciding.Left.{Left}
 use Rattle.token.specs.declared.deciding.Decision.{Decision}
 use Rattle.token.specs.Lines.{void, line_of, allowed, state_refusal}
@@ -23,29 +22,29 @@ use Rattle.token.specs.States.{waited, with_state, offset_after, accepted, faile
 
 -- a refusal keeps a wait run out
 abbrev pub refusing : Refusal → Row → Decision
-refusing refusal r = record { answer = Answer.Refused refusal; left = Left.Stored r Key.Kept }
+refusing refusal r = record { answer = Err refusal; left = Left.Stored r }
 
 -- what follows a success: only a void zeroes the key
 abbrev pub left_by : After → Row → Left
-left_by After.Kept r = Left.Stored r Key.Kept
-left_by (After.Becomes state) r = Left.Stored (with_state r state) Key.Kept
-left_by After.Voided r = Left.Stored (with_state r void) Key.Zeroed
+left_by After.Kept r = Left.Stored r
+left_by (After.Becomes state) r = Left.Stored (with_state r state)
+left_by After.Voided r = Left.Voided (with_state r void)
 
 abbrev pub changing : Line → Row → Decision
-changing l r = record { answer = Answer.Success l.success Content.Plain; left = left_by l.after r }
+changing l r = record { answer = successful l.success Content.Plain; left = left_by l.after r }
 
 -- a query reports a wait that has run out, and leaves the row
 abbrev pub telling : Line → Row → Decision
 telling l r =
     record {
-      answer = Answer.Success l.success (Content.Queried (record { state = r.state; errors = r.errors; last_use = r.last_use }));
+      answer = successful l.success (Content.Queried (record { state = r.state; errors = r.errors; last_use = r.last_use }));
       left = Left.Same;
     }
 
 -- the check's outcome decides: success, several, again, used, wrong; several is no error
 abbrev pub judging : Line → Fails → Row → ℕ → Outcome → Decision
 judging l f r clock (Outcome.Accepted a) =
-    record { answer = Answer.Success l.success (Content.Checked a (offset_after r.track clock a.0)); left = left_by l.after (accepted r clock a.0) }
+    record { answer = successful l.success (Content.Checked a (offset_after r.track clock a.0)); left = left_by l.after (accepted r clock a.0) }
 judging l f r clock Outcome.Several = refusing f.several r
 judging l f r clock Outcome.Again = refusing f.used (repeated r clock f.forgives f.locks)
 judging l f r clock Outcome.Used = refusing f.used (failed r clock f.locks)

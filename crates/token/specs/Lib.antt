@@ -1,4 +1,5 @@
 -- One token by value: the requests to it, its states and the answers (document 01, Part 5).
+pub mod Answers
 pub mod Lines
 pub mod Codes
 pub mod States

@@ -1,5 +1,5 @@
 -- The set cases of document 01, as a table with one proof over the definitions.
-use Rattle.std.specs.Prelude.{ℕ, ◌-◌, ◌^◌, ◌≡◌, refl, Bool, true, not, ◌&&◌, List, [], ◌∷◌, ◌++◌, eqb, replicate}
+use Rattle.std.specs.Prelude.{ℕ, ◌-◌, ◌^◌, ◌≡◌, refl, Bool, true, not, ◌&&◌, List, [], ◌∷◌, ◌++◌, eqb, replicate, Some, None}
 use Rattle.words.specs.Bytes.{be_at, be_bytes}
 use Rattle.words.specs.Lists.{same_bytes}
 use Rattle.window.specs.declared.Size.TheVariants.{Small}
@@ -12,7 +12,6 @@ use Rattle.token.specs.declared.lines.Request.{Request}
 use Rattle.token.specs.declared.deciding.Left.{Left}
 use Rattle.token.specs.Lines.{line_of}
 use Rattle.token.specs.Deciding.{deciding}
-use Rattle.otp.specs.declared.Factor.TheVariants.{Absent, Present}
 use Rattle.otp.specs.Typed.{as_password}
 use Rattle.otp.specs.Password.{factor_bytes, id_of, filled, block_sum, word_sum, cut, decimals, shown}
 
@@ -77,15 +76,16 @@ limit_one r =
 -- the state of a row that is stored
 abbrev pub state_left : Left → ℕ
 state_left Left.Same = 0
-state_left (Left.Stored r key) = r.state
+state_left (Left.Stored r) = r.state
+state_left (Left.Voided r) = r.state
 
 abbrev pub set_cases : List Case
 set_cases =
     case 1 (eqb (cut four_words) 0x0b788100 && same_bytes (shown 6 four_words) text446720)
     ∷ case 2 (same_bytes (shown 10 four_words) (0x30 ∷ 0x31 ∷ 0x39 ∷ 0x32 ∷ text446720))
     ∷ case 3 (eqb (cut eight_words) 0x0fda1ac3)
-    ∷ case 4 (same_bytes (filled (id_of (Present 1340783053) (Present 1234) text5678)) (be_bytes 16 0x000000004feab9cd000004d235363738))
-    ∷ case 5 (same_bytes (filled (id_of (Present 1) Absent [])) (replicate 7 0 ++ (1 ∷ replicate 8 0)))
+    ∷ case 4 (same_bytes (filled (id_of (Some 1340783053) (Some 1234) text5678)) (be_bytes 16 0x000000004feab9cd000004d235363738))
+    ∷ case 5 (same_bytes (filled (id_of (Some 1) None [])) (replicate 7 0 ++ (1 ∷ replicate 8 0)))
     ∷ case 6 (same_bytes (block_sum (replicate 16 0xff) (be_bytes 16 1)) (replicate 16 0))
     ∷ case 7 (same_bytes (candidates_from 0 20 (time_track 60 600) 119 Small) (0 ∷ 1 ∷ 2 ∷ 3 ∷ []))
     ∷ case 8 (same_bytes (candidates_from 0 30 (event_track 5) 0 Small) (4 ∷ 5 ∷ 6 ∷ 7 ∷ 8 ∷ 9 ∷ 10 ∷ 11 ∷ 12 ∷ 13 ∷ 14 ∷ []))

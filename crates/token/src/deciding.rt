@@ -6,24 +6,18 @@ ghost use Rattle.token.specs.Lines.{line_of};
 ghost use Rattle.token.specs.States.{waited, Near, IfAccepted};
 ghost use Rattle.token.specs.Deciding.{refusing, left_by, changing, telling, judging, decided};
 
-use crate::answers::{Answer, Content, Refusal, Status};
+use crate::answers::{Answer, Content, Refusal, Status, Success};
 use crate::lines::{After, Fails, Line, Request, Way, allowed, line_of, state_refusal};
 use crate::states::{accepted, failed, offset_after, repeated, waited, with_state};
 use row::{Row, VOID};
 use window::{Outcome, Seconds, check};
 
-// What becomes of a row's key.
-#[derive(Clone, Copy)]
-pub enum Key {
-    Kept,
-    Zeroed,
-}
-
-// What is left of a row: every byte the same, or the row stored.
+// What is left of a row: every byte the same; the row stored; or that and its key zeroed.
 #[derive(Clone, Copy)]
 pub enum Left {
     Same,
-    Stored(Row, Key),
+    Stored(Row),
+    Voided(Row),
 }
 
 #[derive(Clone, Copy)]
@@ -36,8 +30,8 @@ fn refusing(refusal: Refusal, row: Row) -> Decision
     ensures { result ≡ refusing refusal row }
 {
     Decision {
-        answer: Answer::Refused(refusal),
-        left: Left::Stored(row, Key::Kept),
+        answer: Err(refusal),
+        left: Left::Stored(row),
     }
 }
 
@@ -46,34 +40,37 @@ fn left_by(after: After, row: Row) -> Left
     ensures { result ≡ left_by after row }
 {
     match after {
-        After::Kept => Left::Stored(row, Key::Kept),
-        After::Becomes(state) => Left::Stored(with_state(row, state), Key::Kept),
-        After::Voided => Left::Stored(with_state(row, VOID), Key::Zeroed),
+        After::Kept => Left::Stored(row),
+        After::Becomes(state) => Left::Stored(with_state(row, state)),
+        After::Voided => Left::Voided(with_state(row, VOID)),
     }
 }
 
 fn changing(line: Line, row: Row) -> Decision
     ensures { result ≡ changing line row }
 {
-    let after = line.after;
-    let left = left_by(after, row);
     Decision {
-        answer: Answer::Success(line.success, Content::Plain),
-        left,
+        answer: Ok(Success {
+            number: line.success,
+            content: Content::Plain,
+        }),
+        left: left_by(line.after, row),
     }
 }
 
 fn telling(line: Line, row: Row) -> Decision
     ensures { result ≡ telling line row }
 {
-    let last_use = row.last_use;
     let status = Status {
         state: row.state,
         errors: row.errors,
-        last_use,
+        last_use: row.last_use,
     };
     Decision {
-        answer: Answer::Success(line.success, Content::Queried(status)),
+        answer: Ok(Success {
+            number: line.success,
+            content: Content::Queried(status),
+        }),
         left: Left::Same,
     }
 }
@@ -87,29 +84,22 @@ fn judging(line: Line, fails: Fails, row: Row, clock: Seconds, outcome: Outcome)
     match outcome {
         Outcome::Accepted(a) => {
             let offset = offset_after(row.track, clock, a);
-            let after = line.after;
-            let left = left_by(after, accepted(row, clock, a));
+            let left = left_by(line.after, accepted(row, clock, a));
             Decision {
-                answer: Answer::Success(line.success, Content::Checked(a, offset)),
+                answer: Ok(Success {
+                    number: line.success,
+                    content: Content::Checked(a, offset),
+                }),
                 left,
             }
         }
-        Outcome::Several => {
-            let refusal = fails.several;
-            refusing(refusal, row)
-        }
-        Outcome::Again => {
-            let refusal = fails.used;
-            refusing(refusal, repeated(row, clock, fails.forgives, fails.locks))
-        }
-        Outcome::Used => {
-            let refusal = fails.used;
-            refusing(refusal, failed(row, clock, fails.locks))
-        }
-        Outcome::Wrong => {
-            let refusal = fails.wrong;
-            refusing(refusal, failed(row, clock, fails.locks))
-        }
+        Outcome::Several => refusing(fails.several, row),
+        Outcome::Again => refusing(
+            fails.used,
+            repeated(row, clock, fails.forgives, fails.locks),
+        ),
+        Outcome::Used => refusing(fails.used, failed(row, clock, fails.locks)),
+        Outcome::Wrong => refusing(fails.wrong, failed(row, clock, fails.locks)),
     }
 }
 
@@ -121,12 +111,10 @@ pub fn decide(request: Request, row: Row, clock: Seconds, key: &[u8], challenge:
 {
     let line = line_of(request);
     let found = waited(row, clock);
-    let needs = line.needs;
-    if !allowed(needs, found.state) {
+    if !allowed(line.needs, found.state) {
         return refusing(state_refusal(found.state), found);
     }
-    let way = line.way;
-    match way {
+    match line.way {
         Way::Changes => changing(line, found),
         Way::Tells => telling(line, found),
         Way::Checks(asked, fails) => {
@@ -134,8 +122,7 @@ pub fn decide(request: Request, row: Row, clock: Seconds, key: &[u8], challenge:
                 return refusing(Refusal::Expired, found);
             }
             let swept = check(found.track, clock, key, challenge, asked);
-            let outcome = swept.outcome;
-            judging(line, fails, found, clock, outcome)
+            judging(line, fails, found, clock, swept.outcome)
         }
     }
 }
@@ -144,6 +131,5 @@ pub fn decide(request: Request, row: Row, clock: Seconds, key: &[u8], challenge:
 pub fn report(row: Row, clock: Seconds) -> Answer
     ensures { result ≡ (telling (line_of Request.Query) (waited row clock.0)).answer }
 {
-    let decision = telling(line_of(Request::Query), waited(row, clock));
-    decision.answer
+    telling(line_of(Request::Query), waited(row, clock)).answer
 }

@@ -7,7 +7,7 @@ mod deciding;
 mod lines;
 mod states;
 
-pub use answers::{Answer, Content, Refusal, Status};
+pub use answers::{Answer, Content, Refusal, Status, Success};
 pub use codes::number_of;
-pub use deciding::{Decision, Key, Left, decide, report};
+pub use deciding::{Decision, Left, decide, report};
 pub use lines::Request;

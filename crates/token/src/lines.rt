@@ -57,24 +57,43 @@ const ELSEWHERE: Fails = Fails {
     forgives: false,
 };
 
-// The states that a request needs: any, or from one to another.
+// States in a row, from the lowest to the highest.
 #[derive(Clone, Copy)]
-pub enum Needs {
-    Any,
-    From(u8, u8),
+pub struct States {
+    pub lowest: u8,
+    pub highest: u8,
 }
 
-const IF_INACTIVE: Needs = Needs::From(NOT_ACTIVATED, NOT_ACTIVATED);
+// The states that a request needs; none where it needs no particular one.
+const IF_INACTIVE: Option<States> = Some(States {
+    lowest: NOT_ACTIVATED,
+    highest: NOT_ACTIVATED,
+});
 
-const IF_READY: Needs = Needs::From(READY, READY);
+const IF_READY: Option<States> = Some(States {
+    lowest: READY,
+    highest: READY,
+});
 
-const IF_LOCKED: Needs = Needs::From(LOCKED_BY_ERRORS, LOCKED_BY_HAND);
+const IF_LOCKED: Option<States> = Some(States {
+    lowest: LOCKED_BY_ERRORS,
+    highest: LOCKED_BY_HAND,
+});
 
-const IF_IN_USE: Needs = Needs::From(READY, LOCKED_BY_HAND);
+const IF_IN_USE: Option<States> = Some(States {
+    lowest: READY,
+    highest: LOCKED_BY_HAND,
+});
 
-const IF_SUSPENDED: Needs = Needs::From(SUSPENDED, SUSPENDED);
+const IF_SUSPENDED: Option<States> = Some(States {
+    lowest: SUSPENDED,
+    highest: SUSPENDED,
+});
 
-const IF_NOT_VOID: Needs = Needs::From(NOT_ACTIVATED, SUSPENDED);
+const IF_NOT_VOID: Option<States> = Some(States {
+    lowest: NOT_ACTIVATED,
+    highest: SUSPENDED,
+});
 
 // What a request does in a state that it needs: it changes the state, tells what the row says, or checks passwords.
 #[derive(Clone, Copy)]
@@ -95,13 +114,13 @@ pub enum After {
 // A line of the table: the needed states, what is done, the success's number, and what follows.
 #[derive(Clone, Copy)]
 pub struct Line {
-    pub needs: Needs,
+    pub needs: Option<States>,
     pub way: Way,
     pub success: u16,
     pub after: After,
 }
 
-fn listed(needs: Needs, way: Way, success: u16, after: After) -> Line
+fn listed(needs: Option<States>, way: Way, success: u16, after: After) -> Line
     ensures { result ≡ listed needs way success after }
 {
     Line {
@@ -149,16 +168,16 @@ pub(crate) fn line_of(request: Request) -> Line
             listed(IF_IN_USE, way, 0x0108, After::Kept)
         }
         Request::Void => listed(IF_NOT_VOID, Way::Changes, 0x010a, After::Voided),
-        Request::Query => listed(Needs::Any, Way::Tells, 0x010b, After::Kept),
+        Request::Query => listed(None, Way::Tells, 0x010b, After::Kept),
     }
 }
 
-pub(crate) fn allowed(needs: Needs, state: u8) -> bool
+pub(crate) fn allowed(needs: Option<States>, state: u8) -> bool
     ensures { result ≡ allowed needs state }
 {
     match needs {
-        Needs::Any => true,
-        Needs::From(lowest, highest) => (lowest <= state) & (state <= highest),
+        None => true,
+        Some(states) => (states.lowest <= state) & (state <= states.highest),
     }
 }
 
@@ -166,20 +185,12 @@ pub(crate) fn allowed(needs: Needs, state: u8) -> bool
 pub(crate) fn state_refusal(state: u8) -> Refusal
     ensures { result ≡ state_refusal state }
 {
-    if state == READY {
-        return Refusal::Ready;
+    match state {
+        READY => Refusal::Ready,
+        SUSPENDED => Refusal::Suspended,
+        NOT_ACTIVATED => Refusal::Inactive,
+        VOID => Refusal::Void,
+        EMPTY => Refusal::Unknown,
+        _ => Refusal::Locked,
     }
-    if state == SUSPENDED {
-        return Refusal::Suspended;
-    }
-    if state == NOT_ACTIVATED {
-        return Refusal::Inactive;
-    }
-    if state == VOID {
-        return Refusal::Void;
-    }
-    if state == EMPTY {
-        return Refusal::Unknown;
-    }
-    Refusal::Locked
 }

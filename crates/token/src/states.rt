@@ -1,38 +1,10 @@
 // What happens to a token's row, by value.
 ghost use Rattle.std.specs.Prelude.{◌≡◌};
 ghost use Rattle.window.specs.Window.{Sound};
-ghost use Rattle.token.specs.States.{changed, wait_over, waited, locked_after, with_state, Near, offset_after, track_after, accepted, errors_after, failed, repeated};
+ghost use Rattle.token.specs.States.{wait_over, waited, locked_after, with_state, Near, offset_after, track_after, accepted, errors_after, failed, repeated};
 
 use row::{LOCKED_BY_ERRORS, READY, Row};
 use window::{FARTHEST, Offset, Seconds, Step, TIME_TOKEN, Track, step_at};
-
-const MOST_ERRORS: u8 = 255;
-
-// The row with other values of what calls change.
-fn changed(
-    row: Row,
-    state: u8,
-    errors: u8,
-    track: Track,
-    locked_at: Seconds,
-    last_use: Seconds,
-) -> Row
-    ensures { result ≡ changed row state errors track locked_at last_use }
-{
-    let expiry = row.expiry;
-    Row {
-        state,
-        track,
-        limit: row.limit,
-        errors,
-        key_length: row.key_length,
-        serial: row.serial,
-        wait: row.wait,
-        expiry,
-        locked_at,
-        last_use,
-    }
-}
 
 // Whether a row's wait has run out. A clock before the lock is compared before it is subtracted from.
 fn wait_over(row: Row, clock: Seconds) -> bool
@@ -51,10 +23,13 @@ fn wait_over(row: Row, clock: Seconds) -> bool
 pub(crate) fn waited(row: Row, clock: Seconds) -> Row
     ensures { result ≡ waited row clock.0 }
 {
-    let track = row.track;
-    let last_use = row.last_use;
     if wait_over(row, clock) {
-        return changed(row, READY, 0, track, Seconds(0), last_use);
+        return Row {
+            state: READY,
+            errors: 0,
+            locked_at: Seconds(0),
+            ..row
+        };
     }
     row
 }
@@ -73,10 +48,11 @@ fn locked_after(row: Row, state: u8) -> Seconds
 pub(crate) fn with_state(row: Row, state: u8) -> Row
     ensures { result ≡ with_state row state }
 {
-    let track = row.track;
-    let last_use = row.last_use;
-    let locked_at = locked_after(row, state);
-    changed(row, state, row.errors, track, locked_at, last_use)
+    Row {
+        state,
+        locked_at: locked_after(row, state),
+        ..row
+    }
 }
 
 // The offset that an accepted step sets: d = a - T for a time token.
@@ -97,13 +73,10 @@ fn track_after(track: Track, clock: Seconds, a: Step) -> Track
     requires near { Near track clock.0 a.0 }
     ensures { result ≡ track_after track clock.0 a.0 }
 {
-    let scheme = track.scheme;
-    let offset = offset_after(track, clock, a);
     Track {
-        scheme,
-        period: track.period,
         next: Step(a.0 + 1),
-        offset,
+        offset: offset_after(track, clock, a),
+        ..track
     }
 }
 
@@ -113,32 +86,36 @@ pub(crate) fn accepted(row: Row, clock: Seconds, a: Step) -> Row
     requires near { Near row.track clock.0 a.0 }
     ensures { result ≡ accepted row clock.0 a.0 }
 {
-    let locked_at = row.locked_at;
     let track = track_after(row.track, clock, a);
-    changed(row, row.state, 0, track, locked_at, clock)
+    let errors = 0;
+    Row {
+        track,
+        errors,
+        last_use: clock,
+        ..row
+    }
 }
 
 fn errors_after(row: Row) -> u8
     ensures { result ≡ errors_after row }
 {
-    if row.errors < MOST_ERRORS {
-        return row.errors + 1;
-    }
-    MOST_ERRORS
+    row.errors.saturating_add(1)
 }
 
 // The row once a password was used or wrong; where errors lock, one that reaches the limit does.
 pub(crate) fn failed(row: Row, clock: Seconds, locks: bool) -> Row
     ensures { result ≡ failed row clock.0 locks }
 {
-    let track = row.track;
-    let locked_at = row.locked_at;
-    let last_use = row.last_use;
     let errors = errors_after(row);
     if locks & (row.limit <= errors) {
-        return changed(row, LOCKED_BY_ERRORS, errors, track, clock, last_use);
+        return Row {
+            state: LOCKED_BY_ERRORS,
+            errors,
+            locked_at: clock,
+            ..row
+        };
     }
-    changed(row, row.state, errors, track, locked_at, last_use)
+    Row { errors, ..row }
 }
 
 // The row once the last used password was presented again: an error too, unless it is forgiven.

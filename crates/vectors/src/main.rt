@@ -15,8 +15,10 @@ fn show(rt: &impl Print, name: &str, bytes: &[u8]) -> io::Result<()> {
 }
 
 fn show_digest(rt: &impl Print, name: &str, message: &[u8]) -> io::Result<()> {
-    let digest = sm3(message).digest;
-    show(rt, name, &digest)
+    match sm3(message) {
+        Ok(digest) => show(rt, name, &digest),
+        Err(_) => println!(rt; "{name}refused"),
+    }
 }
 
 // The 64 bytes "abcd" sixteen times.
@@ -28,7 +30,7 @@ fn repeated() -> [u8; 64] {
 fn encrypted(keys: [u32; 32], start: [u8; 16], times: usize) -> [u8; 16] {
     let mut block = start;
     for _ in 0..times {
-        block = encrypt(&keys, &block).block;
+        block = encrypt(&keys, &block).unwrap();
     }
     block
 }
@@ -38,7 +40,7 @@ fn show_encrypted(rt: &impl Print, name: &str, times: usize) -> io::Result<()> {
         0x01, 0x23, 0x45, 0x67, 0x89, 0xab, 0xcd, 0xef, 0xfe, 0xdc, 0xba, 0x98, 0x76, 0x54, 0x32,
         0x10u8,
     ];
-    let keys = round_keys(&example).words;
+    let keys = round_keys(&example).unwrap();
     let block = encrypted(keys, example, times);
     show(rt, name, &block)
 }

@@ -19,7 +19,7 @@ use Rattle.window.specs.declared.goal.Goal.{Goal}
 use Rattle.window.specs.declared.asked.Asked.{Asked}
 use Rattle.window.specs.Window.{candidate, beyond}
 use Rattle.window.specs.Check.{only_one, single_hit, pair_hit, settled}
-use Rattle.window.specs.Goal.{single_goal, pair_goal, cut_at}
+use Rattle.window.specs.Goal.{seeks_pair, single_goal, pair_goal, cut_at}
 use Rattle.window.specs.GoalLaws.{single-hits, pair-hits}
 use Rattle.window.specs.PasswordAt.{PasswordRule, password_at, has_by}
 use Rattle.window.specs.PasswordAtLaws.{other-count}
@@ -151,7 +151,7 @@ module _ (k : Track) (clock : ℕ) (key challenge : List ℕ) (asked : Asked) {b
         by_kind (Asked.Challenged size p) u = same p u
         by_kind (Asked.Two size p q) u = same p (and_left _ _ u)
 
-    given : (cut_of : ℕ → ℕ) (g : Goal) {r : Swept} → g.pair ≡ is_pair asked → goal_outcome k clock (window_size asked) g cut_of ≡ outcome_of password_at k clock key challenge asked
+    given : (cut_of : ℕ → ℕ) (g : Goal) {r : Swept} → seeks_pair g ≡ is_pair asked → goal_outcome k clock (window_size asked) g cut_of ≡ outcome_of password_at k clock key challenge asked
         → goal_fresh k clock (window_size asked) g cut_of ≡ fresh_of password_at k clock key challenge asked → r ≡ swept_by k clock (window_size asked) g cut_of → Given k clock key challenge asked r
     unfolding computed_of swept_by
     given cut_of g ep e f er =

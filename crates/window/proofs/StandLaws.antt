@@ -1,10 +1,11 @@
 -- Where a sweep stands on its way: i places were looked at, and the cuts of `made` candidates were made.
 use Rattle.std.specs.Prelude.{ℕ, ◌+◌, ◌-◌, ◌^◌, ◌≤◌, ◌<◌, min, max, ◌≡◌, refl, Bool, true, false, cond, ◌&&◌, ◌||◌, leb, ltb}
 use Rattle.std.proofs.Common.{◌∙◌, arith, leb-true, leb-false, ltb-false}
+use Rattle.std.proofs.lemmas.Bool.{lt-leb}
 use Rattle.words.specs.BoolLaws.{or_left, or_right, by-test, either, clash}
 use Rattle.window.specs.declared.goal.Goal.{Goal}
 use Rattle.window.specs.declared.met.Met.{Met}
-use Rattle.window.specs.Goal.{ahead_by}
+use Rattle.window.specs.Goal.{seeks_pair, ahead_by}
 use Rattle.window.specs.Sweep.{sure_cuts, met_by}
 
 -- the steps from first up to, not including, end
@@ -33,15 +34,15 @@ pub record Stand (pair : Bool) (hit : ℕ → Bool) (first end next ahead : ℕ)
   pub paired : pair ≡ true → Paired hit first end next ahead m made i
 
 pub stand-begun : (goal : Goal) (hit : ℕ → Bool) (first end next : ℕ) {ahead sure : ℕ} → ahead ≡ ahead_by goal → end - first ≤ 51 → first ≤ 2 ^ 41
-    → sure ≡ sure_cuts goal (end - first) (next - first) → Stand goal.pair hit first end next ahead (record { used = false; again = false; fresh = 0; at = 0 }) sure 0
+    → sure ≡ sure_cuts goal (end - first) (next - first) → Stand (seeks_pair goal) hit first end next ahead (record { used = false; again = false; fresh = 0; at = 0 }) sure 0
 stand-begun goal hit first end next {ahead} {sure} a f s e =
     record {
       stands = a;
       few = f;
       small = s;
       looked = omega arith;
-      most = by-test goal.pair (λ p. omega (arith, rw p at e)) (λ p. omega (arith, rw p at e));
-      least = by-test goal.pair (λ p. omega (arith, rw p at e, rw p at a)) (λ p. omega (arith, rw p at e));
+      most = by-test (seeks_pair goal) (λ p. omega (arith, rw p at e)) (λ p. omega (arith, rw p at e));
+      least = by-test (seeks_pair goal) (λ p. omega (arith, rw p at e, rw p at a)) (λ p. omega (arith, rw p at e));
       counts = omega arith;
       near = omega arith;
       all = λ p. rw p at e;
@@ -52,10 +53,14 @@ stand-begun goal hit first end next {ahead} {sure} a f s e =
 
 -- where there are candidates, some cuts are made at once
 pub sure_some : (goal : Goal) (used : ℕ) {all sure : ℕ} → sure ≡ sure_cuts goal all used → 0 < all → 0 < sure
-sure_some goal used e l = rw e (either (λ (n : ℕ). 0 < n) goal.pair (omega arith) l)
+sure_some goal used e l = rw e (either (λ (n : ℕ). 0 < n) (seeks_pair goal) (omega arith) l)
 
 module _ {pair : Bool} {hit : ℕ → Bool} {first end next ahead : ℕ} {m : Met} {made i : ℕ} (st : Stand pair hit first end next ahead m made i) where
   -- ---- the sweep has not ended
+
+  -- before the range's last place, no pair having hit
+  pub goes-on : i < end - first - ahead → pair && ltb 0 m.fresh ≡ false → leb end (first + i + ahead) || (pair && ltb 0 m.fresh) ≡ false
+  goes-on l u = rw (lt-leb end (first + i + ahead) (omega arith)) u
 
   module _ (still : leb end (first + i + ahead) || (pair && ltb 0 m.fresh) ≡ false) where
     pub still_inside : first + i + ahead < end
@@ -73,14 +78,11 @@ module _ {pair : Bool} {hit : ℕ → Bool} {first end next ahead : ℕ} {m : Me
       pub for_pair : pair ≡ true
       for_pair = by-test pair (λ p. p) (λ p. absurd (omega (arith, still_inside, st.all p)))
 
-      one-ahead : ahead ≡ 1
+      pub one-ahead : ahead ≡ 1
       one-ahead = st.stands ∙ rw for_pair
 
       pub some_left : first + made < end
       some_left = omega (arith, still_inside)
-
-      pub made_less : {more : ℕ} → 1 ≤ more → (end - (first + i)) + (end - (first + (made + more))) < (end - (first + i)) + (end - (first + made))
-      made_less l = omega (arith, some_left)
 
       -- the place that was reached has its cut
       pub here-made : i < made
@@ -110,9 +112,6 @@ module _ {pair : Bool} {hit : ℕ → Bool} {first end next ahead : ℕ} {m : Me
 
     -- a place is looked at
 
-    pub looked_less : (end - (first + (i + 1))) + (end - (first + made)) < (end - (first + i)) + (end - (first + made))
-    looked_less = omega (arith, still_inside)
-
     module _ (h last : Bool) (eh : hit (first + i) ≡ h) (l : i + ahead < made) where
       abbrev met : Bool → Bool → Met
       met h fresh = met_by m h fresh last i
@@ -122,7 +121,7 @@ module _ {pair : Bool} {hit : ℕ → Bool} {first end next ahead : ℕ} {m : Me
       counts-met true false = omega arith
       counts-met true true = omega arith
 
-      near-met : (h fresh : Bool) → (met h fresh).at ≤ i + 1
+      pub near-met : (h fresh : Bool) → (met h fresh).at ≤ i + 1
       near-met false fresh = omega (arith, st.near)
       near-met true false = omega (arith, st.near)
       near-met true true = omega arith

@@ -1,8 +1,8 @@
 -- The sweep up the candidates finds what the check's definition says, and computes exactly the candidates that it should.
-use Rattle.std.specs.Prelude.{ℕ, zero, suc, ◌+◌, ◌-◌, ◌^◌, ◌≤◌, ◌<◌, min, ◌≡◌, refl, Bool, true, false, cond, ◌&&◌, ◌||◌, List, ◌++◌, eqb, leb, ltb, length, get_or, take}
-use Rattle.std.proofs.Common.{sym, ap, ap₂, ◌∙◌, append_assoc, add-zero, arith, leb-true, leb-false, ltb-true, ltb-false, le-leb, lt-ltb, le-ltb, take_at, get_or-take}
+use Rattle.std.specs.Prelude.{ℕ, zero, suc, ◌+◌, ◌-◌, ◌^◌, ◌≤◌, ◌<◌, min, ◌≡◌, refl, Bool, true, false, cond, ◌&&◌, ◌||◌, List, ◌++◌, eqb, leb, ltb, length, get_or, take, drop}
+use Rattle.std.proofs.Common.{sym, ap, ap₂, ◌∙◌, append_assoc, add-zero, arith, leb-true, leb-false, ltb-true, ltb-false, le-leb, lt-ltb, le-ltb, take_at, get_or-take, length-take-le, length-drop}
 use Rattle.std.proofs.lemmas.Bool.{lt-leb}
-use Rattle.words.specs.BoolLaws.{by-test, either-by, and_right, and_false, clash}
+use Rattle.words.specs.BoolLaws.{by-test, either-by, and_right, and_false, or_true, clash}
 use Rattle.otp.specs.declared.lists.Maker.{Maker}
 use Rattle.otp.specs.StepCuts.{cuts_from}
 use Rattle.otp.specs.StepCutsLaws.{length-cuts_from, cuts_from-at, cuts_from-append}
@@ -19,10 +19,10 @@ use Rattle.window.specs.Range.{first_step, end_step}
 use Rattle.window.specs.WindowLaws.{candidates_are-range, end_below}
 use Rattle.window.specs.Check.{how_many, fresh_hit, checked, settled}
 use Rattle.window.proofs.CheckLaws.{misses_leave, same-past, checked_miss, checked-none, checked-used, checked-fresh, accepted-stays, checked-agree}
-use Rattle.window.specs.Goal.{ahead_by, hits, more_sure, maker_of, cut_at}
+use Rattle.window.specs.Goal.{seeks_pair, ahead_by, hits, more_sure, maker_of, cut_at}
 use Rattle.window.specs.GoalLaws.{more_left, more_hit}
 use Rattle.window.proofs.ManyLaws.{many-next, many_miss, many-none, many-agree}
-use Rattle.window.proofs.StandLaws.{within, Stand, some_left, for_pair, stand-made}
+use Rattle.window.proofs.StandLaws.{within, Stand, still_inside, some_left, here-made, one-ahead, stand-made, stand-met}
 use Rattle.window.specs.Sweep.{swept_to, computed_to, acceptances, goal_hit, goal_found, goal_fresh, goal_outcome, swept_by, met_by, unaccepted, met_once, met_outcome}
 
 -- ---- what was met, a place higher: of several fresh hits nothing is said
@@ -135,20 +135,20 @@ module _ (first end next : ℕ) (goal : Goal) (cut_of : ℕ → ℕ) where
       rw (le-leb first (first + i) (omega arith), lt-ltb (first + i) end (omega arith), le-leb first (first + i + ahead_by goal) (omega arith), lt-ltb (first + i + ahead_by goal) end l') e
 
   -- with the cuts that are certain to be reached
-  pub more_stand : {ahead made i x more : ℕ} {m : Met} (st : Stand goal.pair range_hit first end next ahead m made i)
-      (still : leb end (first + i + ahead) || (goal.pair && ltb 0 m.fresh) ≡ false) (short : made ≤ i + ahead) → x ≡ cut_of (first + i)
-      → (more ≡ more_sure goal x (end - (first + made))) × ((1 ≤ more) × (more ≤ 2)) → Stand goal.pair range_hit first end next ahead m (made + more) i
+  pub more_stand : {ahead made i x more : ℕ} {m : Met} (st : Stand (seeks_pair goal) range_hit first end next ahead m made i)
+      (still : leb end (first + i + ahead) || (seeks_pair goal && ltb 0 m.fresh) ≡ false) (short : made ≤ i + ahead) → x ≡ cut_of (first + i)
+      → (more ≡ more_sure goal x (end - (first + made))) × ((1 ≤ more) × (more ≤ 2)) → Stand (seeks_pair goal) range_hit first end next ahead m (made + more) i
   more_stand {made = made} {i = i} {x = x} st still short ex e =
       let left = end - (first + made) in
       stand-made st still short e.1.0 e.1.1 (more_left goal x left e.0 (omega (arith, some_left st still short)))
-      (λ t. more_hit goal x left e.0 (cut_of (first + i + ahead_by goal)) (for_pair st still short) (rw ex (and_right (within first end (first + i) && within first end (first + i + ahead_by goal)) _ t)))
+      (λ t. more_hit goal x left e.0 (cut_of (first + i + ahead_by goal)) (rw ex (and_right (within first end (first + i) && within first end (first + i + ahead_by goal)) _ t)))
 
   pub told-next : (m : Met) (i : ℕ) {h : Bool} → range_hit (first + i) ≡ h → Told m i → Told (met_by m h (leb next (first + i)) (eqb (first + i + 1) next) i) (i + 1)
   told-next m i {h} eh told =
       record { found = met_next range_hit next first i m told.found h _ eh refl; counted = counted_next m i h _ _ told.counted eh refl }
 
-  module _ {ahead n made i : ℕ} {m : Met} (ea : ahead ≡ ahead_by goal) (below : end ≤ n) (st : Stand goal.pair range_hit first end next ahead m made i) (told : Told m i)
-      (ended : leb end (first + i + ahead) || (goal.pair && ltb 0 m.fresh) ≡ true) where
+  module _ {ahead n made i : ℕ} {m : Met} (ea : ahead ≡ ahead_by goal) (below : end ≤ n) (st : Stand (seeks_pair goal) range_hit first end next ahead m made i) (told : Told m i)
+      (ended : leb end (first + i + ahead) || (seeks_pair goal && ltb 0 m.fresh) ≡ true) where
     none_above : end ≤ first + i + ahead → (r : ℕ) → min (first + i) n ≤ r → range_hit r ≡ false
     none_above l r p = hit_above r (rw (← ea) (omega arith))
 
@@ -159,33 +159,33 @@ module _ (first end next : ℕ) (goal : Goal) (cut_of : ℕ → ℕ) where
     whole-found : m.fresh ≤ 1 → checked range_hit next n ≡ met_once first 0 m
     whole-found few =
         by-test (ltb 0 m.fresh)
-        (λ u. by-test goal.pair
+        (λ u. by-test (seeks_pair goal)
         (λ p.
         let e : n ≡ first + i + (n - (first + i)) = omega (arith, st.looked, st.most, (st.paired p).ends (ltb-true 0 m.fresh u)) in
         rw u (ap (checked range_hit next) e ∙ accepted-stays range_hit next (first + m.at + 0) (first + i) (n - (first + i)) (rw u at (told.found few))))
-        (λ p. whole-at (all-looked goal.pair first end ahead i m (λ t. clash t p) ended) few))
-        (λ u. whole-at (all-looked goal.pair first end ahead i m (λ t. ltb-false 0 m.fresh u) ended) few)
+        (λ p. whole-at (all-looked (seeks_pair goal) first end ahead i m (λ t. clash t p) ended) few))
+        (λ u. whole-at (all-looked (seeks_pair goal) first end ahead i m (λ t. ltb-false 0 m.fresh u) ended) few)
 
-    whole-counted : goal.pair ≡ false → how_many fresh n ≡ m.fresh
+    whole-counted : seeks_pair goal ≡ false → how_many fresh n ≡ m.fresh
     whole-counted p =
-        let l = all-looked goal.pair first end ahead i m (λ t. clash t p) ended in
+        let l = all-looked (seeks_pair goal) first end ahead i m (λ t. clash t p) ended in
         same-past (how_many fresh) fresh (many_miss fresh) (first + i) n (λ r q. rw (none_above l r q) (and_false (leb next r))) ∙ told.counted
 
-    made-are : min (swept_to goal.pair n (met_outcome first ahead m)) end - first ≡ made
-    made-are = by-test goal.pair (λ p. rw p (for_pair p)) (λ p. rw (p, single-swept n (met_outcome first ahead m)) (omega (arith, st.all p)))
+    made-are : min (swept_to (seeks_pair goal) n (met_outcome first ahead m)) end - first ≡ made
+    made-are = by-test (seeks_pair goal) (λ p. rw p (for_pair p)) (λ p. rw (p, single-swept n (met_outcome first ahead m)) (omega (arith, st.all p)))
       where
         past-unaccepted : (a u : Bool) → swept_to true n (unaccepted a u) ≡ n
         past-unaccepted true u = refl
         past-unaccepted false true = refl
         past-unaccepted false false = refl
 
-        for_pair : goal.pair ≡ true → min (swept_to true n (met_outcome first ahead m)) end - first ≡ made
+        for_pair : seeks_pair goal ≡ true → min (swept_to true n (met_outcome first ahead m)) end - first ≡ made
         for_pair p =
             rw (lt-leb 2 m.fresh (omega (arith, (st.paired p).once)))
             (by-test (ltb 0 m.fresh)
             (λ u. rw u (omega (arith, st.most, (st.paired p).ends (ltb-true 0 m.fresh u))))
             (λ u.
-            let l = all-looked goal.pair first end ahead i m (λ t. ltb-false 0 m.fresh u) ended in
+            let l = all-looked (seeks_pair goal) first end ahead i m (λ t. ltb-false 0 m.fresh u) ended in
             rw (u, past-unaccepted m.again m.used) (omega (arith, st.most, st.least))))
 
 settled-met : (first ahead : ℕ) (m : Met) → settled ahead (met_once first 0 m) ≡ met_once first ahead m
@@ -211,8 +211,8 @@ once-met first ahead m few =
 -- ---- the end of the sweep
 
 module _ (k : Track) (clock : ℕ) (size : Size) (goal : Goal) (cut_of : ℕ → ℕ) {first end ahead made i : ℕ} {m : Met} (ef : first ≡ first_step k clock size) (ee : end ≡ end_step k clock size)
-    (ea : ahead ≡ ahead_by goal) (st : Stand goal.pair (range_hit first end k.next.0 goal cut_of) first end k.next.0 ahead m made i) (told : Told first end k.next.0 goal cut_of m i)
-    (ended : leb end (first + i + ahead) || (goal.pair && ltb 0 m.fresh) ≡ true) where
+    (ea : ahead ≡ ahead_by goal) (st : Stand (seeks_pair goal) (range_hit first end k.next.0 goal cut_of) first end k.next.0 ahead m made i) (told : Told first end k.next.0 goal cut_of m i)
+    (ended : leb end (first + i + ahead) || (seeks_pair goal && ltb 0 m.fresh) ≡ true) where
   below : end ≤ beyond k clock
   below = rw ee (end_below k clock size)
 
@@ -226,7 +226,7 @@ module _ (k : Track) (clock : ℕ) (size : Size) (goal : Goal) (cut_of : ℕ →
   -- what the loop has counted is what the check reports
   fresh-met : goal_fresh k clock size goal cut_of ≡ m.fresh
   fresh-met =
-      either-by (λ (x : ℕ). x ≡ m.fresh) goal.pair
+      either-by (λ (x : ℕ). x ≡ m.fresh) (seeks_pair goal)
       (λ p. rw (found-met (st.paired p).once) (once-met first ahead m (st.paired p).once))
       (λ p.
       many-agree (fresh_hit (goal_hit (candidate k clock size) goal cut_of) k.next.0) (fresh_hit (goal_hit (within first end) goal cut_of) k.next.0) (λ s. rw (hits-agree s)) (beyond k clock)
@@ -238,14 +238,14 @@ module _ (k : Track) (clock : ℕ) (size : Size) (goal : Goal) (cut_of : ℕ →
   swept : {o : Outcome} → o ≡ met_outcome first ahead m → ◌≡◌ {A = Swept} (record { outcome = o; computed = made; fresh = m.fresh }) (swept_by k clock size goal cut_of)
   unfolding swept_by
   swept eo =
-      let e : computed_to goal.pair k clock size (met_outcome first ahead m) ≡ made =
-      candidates_below k clock size (swept_to goal.pair (beyond k clock) (met_outcome first ahead m)) ∙ rw (← ef, ← ee) (made-are first end k.next.0 goal cut_of ea below st told ended) in
+      let e : computed_to (seeks_pair goal) k clock size (met_outcome first ahead m) ≡ made =
+      candidates_below k clock size (swept_to (seeks_pair goal) (beyond k clock) (met_outcome first ahead m)) ∙ rw (← ef, ← ee) (made-are first end k.next.0 goal cut_of ea below st told ended) in
       rw (outcome-met, fresh-met, e, eo)
 
 -- ---- the loop's invariant
 
 pub record Sweeping (goal : Goal) (cut_of : ℕ → ℕ) (ahead first end next : ℕ) (cuts : List ℕ) (made : ℕ) (m : Met) (i : ℕ) : Type 0 where
-  pub stand : Stand goal.pair (range_hit first end next goal cut_of) first end next ahead m made i
+  pub stand : Stand (seeks_pair goal) (range_hit first end next goal cut_of) first end next ahead m made i
   pub told : Told first end next goal cut_of m i
   pub room : length cuts ≡ 51
   pub are : take made cuts ≡ cuts_from cut_of made first
@@ -254,7 +254,7 @@ pub record Sweeping (goal : Goal) (cut_of : ℕ → ℕ) (ahead first end next :
 pub swept-made : (k : Track) (clock : ℕ) (size : Size) (goal : Goal) (key challenge : List ℕ) {maker : Maker} {first end ahead made i : ℕ} {cuts : List ℕ} {m : Met} {o : Outcome}
     → first ≡ first_step k clock size → end ≡ end_step k clock size → ahead ≡ ahead_by goal → maker ≡ maker_of k.scheme
     → Sweeping goal (step_cut maker.algorithm key challenge maker.timed) ahead first end k.next.0 cuts made m i
-    → leb end (first + i + ahead) || (goal.pair && ltb 0 m.fresh) ≡ true → o ≡ met_outcome first ahead m
+    → leb end (first + i + ahead) || (seeks_pair goal && ltb 0 m.fresh) ≡ true → o ≡ met_outcome first ahead m
     → ◌≡◌ {A = Swept} (record { outcome = o; computed = made; fresh = m.fresh }) (swept_by k clock size goal (cut_at k.scheme key challenge))
 swept-made k clock size goal key challenge {maker} {first} ef ee ea em inv ended eo =
     let by : step_cut maker.algorithm key challenge maker.timed ≡ cut_at k.scheme key challenge = rw em in
@@ -280,3 +280,60 @@ module _ (cut_of : ℕ → ℕ) (first : ℕ) where
 
   pub cut-read : (made : ℕ) (cuts : List ℕ) (i : ℕ) → take made cuts ≡ cuts_from cut_of made first → i < made → get_or cuts i 0 ≡ cut_of (first + i)
   cut-read made cuts i e l = sym (get_or-take made cuts i 0 l) ∙ ap (λ (x : List ℕ). get_or x i 0) e ∙ cuts_from-at cut_of made first i l
+
+-- ---- one turn of the loop
+
+module _ {goal : Goal} {cut_of : ℕ → ℕ} {ahead first end next made i : ℕ} {cuts : List ℕ} {m : Met} (inv : Sweeping goal cut_of ahead first end next cuts made m i)
+    (still : leb end (first + i + ahead) || (seeks_pair goal && ltb 0 m.fresh) ≡ false) where
+  -- the cuts that place i needs are made
+  pub record Reached (wider : List ℕ) (all : ℕ) : Type 0 where
+    pub sweeping : Sweeping goal cut_of ahead first end next wider all m i
+    pub enough : i + ahead < all
+
+  pub enough-made : {wider : List ℕ} {all : ℕ} → i + ahead < made → wider ≡ cuts → all ≡ made → Reached wider all
+  enough-made l ew ea = rw (ew, ea) (record { sweeping = inv; enough = l })
+
+  pub more-made : (rest : List ℕ) {more all : ℕ} {part wider : List ℕ} → made ≤ i + ahead
+      → (more ≡ more_sure goal (get_or cuts i 0) (end - (first + made))) × ((1 ≤ more) × (more ≤ 2))
+      → part ≡ cuts_from cut_of (length (take (made + more - made) (drop made cuts))) (first + made)
+      → wider ≡ take made cuts ++ (part ++ rest) → length wider ≡ length cuts → all ≡ made + more → Reached wider all
+  more-made rest {more} short em ep ew el ea =
+      let here = here-made inv.stand still short in
+      let stand = more_stand first end next goal cut_of inv.stand still short (cut-read cut_of first made cuts i inv.are here) em in
+      let as_many = length-take-le (made + more - made) (drop made cuts) (rw (length-drop, inv.room) (omega (arith, stand.most, stand.few))) in
+      rw ea (record {
+        sweeping = record { stand = stand; told = inv.told; room = el ∙ inv.room; are = rw ew (more_put cut_of first made more cuts rest inv.are as_many ep) };
+        enough = omega (arith, here, one-ahead inv.stand still short, em.1.0);
+      })
+
+  -- place i is looked at
+  pub looked-at : {wider : List ℕ} {all : ℕ} → Reached wider all → {h : Bool} {after : Met} → h ≡ hits goal (get_or wider i 0) (get_or wider (i + ahead) 0)
+      → after ≡ met_by m h (leb next (first + i)) (eqb (first + i + 1) next) i → Sweeping goal cut_of ahead first end next wider all after (i + 1)
+  looked-at {wider} {all} r {h} eh em =
+      let now = r.sweeping in
+      let x = cut-read cut_of first all wider i now.are (omega (arith, r.enough)) in
+      let y = cut-read cut_of first all wider (i + ahead) now.are r.enough in
+      let hit = place_hit first end next goal cut_of i now.stand.stands (still_inside now.stand still) x y eh in
+      record {
+        stand = rw em (stand-met now.stand still h _ hit r.enough);
+        told = rw em (told-next first end next goal cut_of m i hit now.told);
+        room = now.room;
+        are = now.are;
+      }
+
+-- what was met lies no higher
+pub met-below : (m after : Met) (hit fresh last : Bool) (i : ℕ) → after ≡ met_by m hit fresh last i → m.at ≤ i → after.at ≤ i
+met-below m after hit fresh last i e l = rw e (by_hit hit fresh)
+  where
+    by_hit : (hit fresh : Bool) → (met_by m hit fresh last i).at ≤ i
+    by_hit false fresh = l
+    by_hit true false = l
+    by_hit true true = omega arith
+
+-- the places are at an end
+pub all-placed : (first end ahead i : ℕ) (hit : Bool) → end - first - ahead ≤ i → leb end (first + i + ahead) || hit ≡ true
+all-placed first end ahead i hit l = rw (le-leb end (first + i + ahead) (omega arith))
+
+-- or a pair hit
+pub pair-met : (goal : Goal) (m : Met) (looked : Bool) → seeks_pair goal ≡ true → 0 < m.fresh → looked || (seeks_pair goal && ltb 0 m.fresh) ≡ true
+pair-met goal m looked p l = rw (p, lt-ltb 0 m.fresh l) (or_true looked)

@@ -1,5 +1,5 @@
 -- A goal's cuts are those of the steps that have its passwords.
-use Rattle.std.specs.Prelude.{ℕ, ◌+◌, ◌%◌, ◌^◌, ◌≤◌, ◌<◌, ◌≡◌, Bool, not, ◌&&◌, ◌||◌, List, ltb}
+use Rattle.std.specs.Prelude.{ℕ, ◌+◌, ◌%◌, ◌^◌, ◌≤◌, ◌<◌, ◌≡◌, Bool, ◌&&◌, ◌||◌, List, ltb}
 use Rattle.std.proofs.Math.Path.{refl, sym}
 use Rattle.std.proofs.Common.{ap, ◌∙◌, zero-lt-suc, arith, eq-eqb, ne_eqb, ltb-false}
 use Rattle.std.proofs.Math.Bool.{true, false}
@@ -14,7 +14,7 @@ use Rattle.otp.specs.CutLists.{step_cut}
 use Rattle.window.specs.declared.Scheme.{Scheme}
 use Rattle.window.specs.declared.goal.Goal.{Goal}
 use Rattle.window.specs.PasswordAt.{password_at, has_by}
-use Rattle.window.specs.Goal.{single_goal, pair_goal, hits, more_sure, cut_at}
+use Rattle.window.specs.Goal.{single_goal, pair_goal, begins, hits, more_sure, cut_at}
 
 -- ---- the goals
 
@@ -36,7 +36,7 @@ module _ (goal : Goal) (x y : ℕ) where
   unfolding hits
   hits-other n = rw (ne_eqb (y % goal.modulus) goal.last n)
 
-  pub hits-last : y % goal.modulus ≡ goal.last → not goal.pair || eqb (x % goal.modulus) goal.before ≡ hits goal x y
+  pub hits-last : y % goal.modulus ≡ goal.last → begins goal x ≡ hits goal x y
   unfolding hits
   hits-last e = rw (eq-eqb (y % goal.modulus) goal.last e)
 
@@ -45,15 +45,13 @@ module _ (goal : Goal) (x y : ℕ) where
 module _ (goal : Goal) (x left : ℕ) {n : ℕ} (e : n ≡ more_sure goal x left) where
   pub more_left : 0 < left → n ≤ left
   more_left l =
-      rw e (either-by (λ (k : ℕ). k ≤ left) (ltb left 2 || eqb (x % goal.modulus) goal.before) (λ t. omega arith)
+      rw e (either-by (λ (k : ℕ). k ≤ left) (ltb left 2 || begins goal x) (λ t. omega arith)
       (λ t. ltb-false left 2 (or_left _ _ t)))
 
   -- at a step that hits no more than the next
-  pub more_hit : (y : ℕ) → goal.pair ≡ true → hits goal x y ≡ true → n ≡ 1
+  pub more_hit : (y : ℕ) → hits goal x y ≡ true → n ≡ 1
   unfolding hits
-  more_hit y p t =
-      let b : eqb (x % goal.modulus) goal.before ≡ true = rw p at (and_right (eqb (y % goal.modulus) goal.last) _ t) in
-      rw (e, b, or_true (ltb left 2))
+  more_hit y t = let b : begins goal x ≡ true = and_right (eqb (y % goal.modulus) goal.last) _ t in rw (e, b, or_true (ltb left 2))
 
 -- ---- cuts and passwords
 

@@ -1,9 +1,7 @@
 -- The password of a step (document 01, Part 3), over the password rule.
-use Rattle.std.specs.Prelude.{ℕ, Bool, List, eqb}
+use Rattle.std.specs.Prelude.{ℕ, Bool, List, eqb, Some, None}
 use Rattle.words.specs.Lists.{same_bytes}
-use Rattle.otp.specs.declared.Factor.{Factor}
-use Rattle.otp.specs.declared.Factor.TheVariants.{Absent, Present}
-use Rattle.otp.specs.Password.{password_of, arguments_ok}
+use Rattle.otp.specs.Password.{password_of, arguments_ok, Factor}
 use Rattle.otp.specs.StepCuts.{time_at, count_at}
 use Rattle.window.specs.declared.Scheme.{Scheme}
 use Rattle.window.specs.Window.{time_token}
@@ -20,7 +18,7 @@ password_at scheme key challenge s = password_of scheme.algorithm key (time_of s
 
 -- the scheme, the key and the challenge are in range (document 01, Part 2); a step adds nothing to that
 abbrev pub in_range : Scheme → List ℕ → List ℕ → Bool
-in_range scheme key challenge = arguments_ok scheme.algorithm key (Present 0) Absent challenge scheme.digits
+in_range scheme key challenge = arguments_ok scheme.algorithm key (Some 0) None challenge scheme.digits
 
 -- a password rule: the digits of a step, from a token's scheme, its key and the challenge; `password_at` is the standard's
 abbrev pub PasswordRule : Type 0

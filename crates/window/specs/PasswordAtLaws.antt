@@ -1,8 +1,7 @@
 -- What a search asks of the password rule.
-use Rattle.std.specs.Prelude.{ℕ, ◌≤◌, ◌≡◌, true, false, List, length}
+use Rattle.std.specs.Prelude.{ℕ, ◌≤◌, ◌≡◌, true, false, List, length, Some, None}
 use Rattle.std.proofs.Common.{sym, ◌∙◌}
 use Rattle.words.specs.ListsLaws.{same_lengths}
-use Rattle.otp.specs.declared.Factor.TheVariants.{Absent, Present}
 use Rattle.otp.specs.declared.typed.Password.{Password}
 use Rattle.otp.specs.Password.{password_of}
 use Rattle.otp.specs.PasswordLaws.{length-decimals, length-password, key-long, key-short, challenge-short, digits_high}
@@ -20,10 +19,10 @@ pub record Fitting (scheme : Scheme) (key challenge : List ℕ) : Type 0 where
 pub range-fits : (scheme : Scheme) (key challenge : List ℕ) → in_range scheme key challenge ≡ true → Fitting scheme key challenge
 range-fits scheme key challenge ok =
     record {
-      long = key-long scheme.algorithm key (Present 0) Absent challenge scheme.digits ok;
-      short = key-short scheme.algorithm key (Present 0) Absent challenge scheme.digits ok;
-      room = challenge-short scheme.algorithm key (Present 0) Absent challenge scheme.digits ok;
-      counted = digits_high scheme.algorithm key (Present 0) Absent challenge scheme.digits ok;
+      long = key-long scheme.algorithm key (Some 0) None challenge scheme.digits ok;
+      short = key-short scheme.algorithm key (Some 0) None challenge scheme.digits ok;
+      room = challenge-short scheme.algorithm key (Some 0) None challenge scheme.digits ok;
+      counted = digits_high scheme.algorithm key (Some 0) None challenge scheme.digits ok;
     }
 
 -- no step has a password of another count of digits

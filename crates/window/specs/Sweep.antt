@@ -14,7 +14,7 @@ use Rattle.window.specs.Check.{how_many, fresh_hit, checked, only_one, settled}
 use Rattle.window.specs.TokenCheck.{fresh_matches}
 use Rattle.window.specs.PasswordAt.{PasswordRule, has_by}
 use Rattle.window.specs.Asked.{outcome_of, two_asked, window_size}
-use Rattle.window.specs.Goal.{ahead_by, hits}
+use Rattle.window.specs.Goal.{seeks_pair, ahead_by, hits}
 
 -- where a check ends: past every candidate, but for a pair that is accepted
 abbrev pub swept_to : Bool → ℕ → Outcome → ℕ
@@ -69,7 +69,7 @@ goal_found k clock size goal cut_of = settled (ahead_by goal) (checked (goal_hit
 
 abbrev pub goal_fresh : Track → ℕ → Size → Goal → (ℕ → ℕ) → ℕ
 goal_fresh k clock size goal cut_of =
-    cond goal.pair (acceptances (goal_found k clock size goal cut_of)) (how_many (fresh_hit (goal_hit (candidate k clock size) goal cut_of) k.next.0) (beyond k clock))
+    cond (seeks_pair goal) (acceptances (goal_found k clock size goal cut_of)) (how_many (fresh_hit (goal_hit (candidate k clock size) goal cut_of) k.next.0) (beyond k clock))
 
 -- a pair has at most one fresh match to show
 abbrev pub goal_outcome : Track → ℕ → Size → Goal → (ℕ → ℕ) → Outcome
@@ -78,11 +78,11 @@ goal_outcome k clock size goal cut_of = only_one (goal_fresh k clock size goal c
 unfoldable pub swept_by : Track → ℕ → Size → Goal → (ℕ → ℕ) → Swept
 swept_by k clock size goal cut_of =
     let o = goal_outcome k clock size goal cut_of in
-    record { outcome = o; computed = computed_to goal.pair k clock size o; fresh = goal_fresh k clock size goal cut_of }
+    record { outcome = o; computed = computed_to (seeks_pair goal) k clock size o; fresh = goal_fresh k clock size goal cut_of }
 
 -- the cuts that every sweep makes, of all candidates, of which some are used
 abbrev pub sure_cuts : Goal → ℕ → ℕ → ℕ
-sure_cuts goal all used = cond goal.pair (min all (used + 2)) all
+sure_cuts goal all used = cond (seeks_pair goal) (min all (used + 2)) all
 
 -- ---- what a sweep has met
 

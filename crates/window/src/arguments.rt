@@ -3,7 +3,7 @@ ghost use Rattle.std.specs.Prelude.{◌≡◌};
 ghost use Rattle.window.specs.PasswordAt.{in_range};
 
 use crate::Scheme;
-use otp::{Factor, arguments_ok};
+use otp::arguments_ok;
 
 // Every clock reading lies below.
 pub const CLOCKS: u64 = 0x100_0000_0000;
@@ -15,8 +15,8 @@ pub fn in_range(scheme: Scheme, key: &[u8], challenge: &[u8]) -> bool
     arguments_ok(
         scheme.algorithm,
         key,
-        Factor::Present(0),
-        Factor::Absent,
+        Some(0),
+        None,
         challenge,
         scheme.digits as usize,
     )

@@ -1,5 +1,5 @@
 // The candidates of a token as a range of steps, possibly empty.
-ghost use Rattle.std.specs.Prelude.{◌≡◌, ◌-◌, ◌^◌, ◌≤◌, ◌<◌, min, max};
+ghost use Rattle.std.specs.Prelude.{◌≡◌, ◌^◌, ◌≤◌, ◌<◌};
 ghost use Rattle.window.specs.Window.{step_at, time_width, event_width, Sound};
 ghost use Rattle.window.specs.Range.{time_first, time_end, event_first, event_end, first_step, end_step};
 
@@ -32,45 +32,18 @@ pub fn step_at(clock: Seconds, period: u8) -> Step
     Step(clock.0 / period as u64)
 }
 
-fn time_width(size: Size) -> u64
-    ensures value { result ≡ time_width size }
-    ensures upper_bound { result ≤ 10 }
+// The widths w of a window: a time token's and an event token's.
+fn widths(size: Size) -> (u64, u64)
+    ensures time_value { result.0 ≡ time_width size }
+    ensures event_value { result.1 ≡ event_width size }
+    ensures time_bound { result.0 ≤ 10 }
+    ensures event_bound { result.1 ≤ 50 }
 {
     match size {
-        Size::Small => 2,
-        Size::Medium => 5,
-        Size::Large => 10,
+        Size::Small => (2, 10),
+        Size::Medium => (5, 20),
+        Size::Large => (10, 50),
     }
-}
-
-fn event_width(size: Size) -> u64
-    ensures value { result ≡ event_width size }
-    ensures upper_bound { result ≤ 50 }
-{
-    match size {
-        Size::Small => 10,
-        Size::Medium => 20,
-        Size::Large => 50,
-    }
-}
-
-// a less b, or 0.
-pub(crate) fn less(a: u64, b: u64) -> u64
-    ensures { result ≡ a - b }
-{
-    if b <= a { a - b } else { 0 }
-}
-
-fn larger(a: u64, b: u64) -> u64
-    ensures { result ≡ max a b }
-{
-    if a <= b { b } else { a }
-}
-
-pub(crate) fn smaller(a: u64, b: u64) -> u64
-    ensures { result ≡ min a b }
-{
-    if a <= b { a } else { b }
 }
 
 // Both bounds of a time token's candidates: w around T + d, and 600 around T.
@@ -82,8 +55,12 @@ fn time_range(t: Step, offset: u64, w: u64) -> Range
     ensures end_value { result.end.0 ≡ time_end t.0 offset w }
 {
     let centre = t.0 + offset;
-    let first = larger(less(centre, FARTHEST + w), less(t.0, FARTHEST));
-    let end = smaller(less(centre + w + 1, FARTHEST), t.0 + FARTHEST + 1);
+    let first = centre
+        .saturating_sub(FARTHEST + w)
+        .max(t.0.saturating_sub(FARTHEST));
+    let end = (centre + w + 1)
+        .saturating_sub(FARTHEST)
+        .min(t.0 + FARTHEST + 1);
     Range {
         first: Step(first),
         end: Step(end),
@@ -98,8 +75,8 @@ fn event_range(next: Step, w: u64) -> Range
     ensures end_value { result.end.0 ≡ event_end next.0 w }
 {
     Range {
-        first: Step(less(next.0, 1)),
-        end: Step(smaller(next.0 + w, COUNTS)),
+        first: Step(next.0.saturating_sub(1)),
+        end: Step((next.0 + w).min(COUNTS)),
     }
 }
 
@@ -109,9 +86,10 @@ pub(crate) fn candidates(track: Track, clock: Seconds, size: Size) -> Range
     ensures first_value { result.first.0 ≡ first_step track clock.0 size }
     ensures end_value { result.end.0 ≡ end_step track clock.0 size }
 {
+    let (time_width, event_width) = widths(size);
     if track.scheme.kind == TIME_TOKEN {
         let t = step_at(clock, track.period);
-        return time_range(t, track.offset.0 as u64, time_width(size));
+        return time_range(t, track.offset.0 as u64, time_width);
     }
-    event_range(track.next, event_width(size))
+    event_range(track.next, event_width)
 }

@@ -6,7 +6,7 @@ ghost use Rattle.window.specs.Sweep.{sure_cuts, swept_by};
 
 use crate::goal::{Goal, ahead_by, hits, more_sure};
 use crate::met::{UNMET, met_by, met_outcome};
-use crate::range::{candidates, less, smaller};
+use crate::range::candidates;
 use crate::{Scheme, Seconds, Size, Swept, TIME_TOKEN, Track};
 use otp::lists::{Maker, READY, put_cuts, put_first_cuts};
 
@@ -29,10 +29,10 @@ fn sure_cuts(goal: Goal, all: u64, used: u64) -> u64
     ensures value { result ≡ sure_cuts goal all used }
     ensures upper_bound { result ≤ all }
 {
-    if !goal.pair {
-        return all;
+    match goal.before {
+        Some(_) => all.min(used + 2),
+        None => all,
     }
-    smaller(all, used + 2)
 }
 
 // Place i is the candidate first + i; a pair that hits there is accepted at the place `ahead` of it, and ends the sweep. `made` counts the cuts that are made:
@@ -58,21 +58,14 @@ pub(crate) fn sweep(
     let end = range.end.0;
     let next = track.next.0;
     let maker = maker_of(track.scheme);
+    let all = end.saturating_sub(first);
     let mut ready = [0u32; READY];
     let mut cuts = [0u32; MOST];
-    let mut made = sure_cuts(goal, less(end, first), less(next, first));
+    let mut made = sure_cuts(goal, all, next.saturating_sub(first));
     let sure = made as usize;
     put_first_cuts(maker, key, challenge, first, &mut ready, &mut cuts[0..sure]);
     let mut met = UNMET;
-    let mut i = 0;
-    loop {
-        if (end <= first + i + ahead) | (goal.pair & (0 < met.fresh)) {
-            break Swept {
-                outcome: met_outcome(first, ahead, met),
-                computed: made,
-                fresh: met.fresh,
-            };
-        }
+    for i in 0..all.saturating_sub(ahead) {
         let here = i as usize;
         if made <= i + ahead {
             let s = first + made;
@@ -81,11 +74,17 @@ pub(crate) fn sweep(
             let to = (made + more) as usize;
             put_cuts(maker, key, &ready, challenge, s, &mut cuts[from..to]);
             made += more;
-            continue;
         }
         let last = (i + ahead) as usize;
         let hit = hits(goal, cuts[here], cuts[last]);
         met = met_by(met, hit, next <= first + i, first + i + 1 == next, i);
-        i += 1;
+        if (0 < met.fresh) && goal.before.is_some() {
+            break;
+        }
+    }
+    Swept {
+        outcome: met_outcome(first, ahead, met),
+        computed: made,
+        fresh: met.fresh,
     }
 }

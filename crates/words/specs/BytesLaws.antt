@@ -1,6 +1,6 @@
 -- Laws of numbers in bytes, each for every width.
 use Rattle.std.specs.Prelude.{ℕ, zero, suc, ◌+◌, ◌-◌, ◌*◌, ◌/◌, ◌%◌, ◌^◌, ◌≤◌, ◌<◌, ◌≡◌, refl, ◌⊎◌, List, [], ◌∷◌, ◌++◌, length, get_or, set, take, drop, replicate}
-use Rattle.std.proofs.Common.{sym, ap, ap₂, ◌∙◌, inl, inr, append_assoc, append-nil, add-suc, add-zero, zero-add, suc-add, add_assoc, pow-suc, lt_of_lt_of_le, le_trans, zero-lt-suc, not-suc-le-zero, mul_assoc, mul_comm, div-one, mod-lt, mod-eq_of_lt, add-one, arith, length-set, length-append, take-append-drop, length-take-le, drop-set-lt, get_or-set_same, get_or-set_other, drop-cons, take_at, drop_at, drop-drop}
+use Rattle.std.proofs.Common.{sym, ap, ap₂, ◌∙◌, inl, inr, append_assoc, append-nil, add-suc, add-zero, zero-add, suc-add, add_assoc, pow-suc, lt_of_lt_of_le, le_trans, zero-lt-suc, not-suc-le-zero, mul_assoc, mul_comm, div-one, mod-lt, mod-eq_of_lt, add-one, arith, length-set, length-append, length-drop, get_or-take, get_or-drop, take-append-drop, length-take-le, drop-set-lt, get_or-set_same, get_or-set_other, drop-cons, take_at, drop_at, drop-drop}
 use Rattle.std.proofs.Math.Nat.{mod-one, one-le-pow, pow-le-pow_right, le-suc, div-div-eq-div-mul}
 use Rattle.std.proofs.Math.Arith.{digits_lt, mod-mul}
 use Rattle.std.proofs.lemmas.List.{length-replicate, take-set-le, set-get_or}
@@ -10,6 +10,17 @@ pub be_at-lt : (k : ℕ) (s : List ℕ) (at : ℕ) → AreBytes s → be_at k s 
 unfolding be_at
 be_at-lt zero s at h = zero-lt-suc 0
 be_at-lt (suc k) s at h = rw pow-suc (digits_lt (be_at-lt k s at h) (h (at + k)))
+
+-- the k bytes from at on, as a part of their own
+module _ (s : List ℕ) (at k : ℕ) where
+  pub part-length : at + k ≤ length s → length (take (at + k - at) (drop at s)) ≡ k
+  part-length h =
+      let e : at + k - at ≡ k = omega arith in
+      let m : k ≤ length (drop at s) = rw length-drop (omega arith) in
+      rw e (length-take-le k (drop at s) m)
+
+  pub part_byte : (i : ℕ) → i < k → get_or (take (at + k - at) (drop at s)) i 0 ≡ get_or s (at + i) 0
+  part_byte i h = let e : at + k - at ≡ k = omega arith in rw (e, get_or-take) (get_or-drop at s i 0)
 
 -- one more byte
 pub byte_more : (i : ℕ) {x b : ℕ} → x < 256 ^ i → b < 256 → x * 256 + b < 256 ^ (i + 1)

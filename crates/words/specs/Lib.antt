@@ -13,7 +13,6 @@ pub mod Search
 pub mod Entries
 pub mod Exactly
 pub mod Codes
-pub mod CopyLaws
 pub mod Output
 pub mod OutputLaws
 pub mod BoolLaws

@@ -1,6 +1,7 @@
 -- Laws of the tests on lists, in the form in which a loop over the elements needs them.
 use Rattle.std.specs.Prelude.{ℕ, zero, suc, ◌+◌, ◌-◌, ◌<◌, ◌≤◌, ◌≡◌, refl, Bool, true, false, ◌&&◌, List, [], ◌∷◌, eqb, leb, length, get_or, drop, replicate}
 use Rattle.std.proofs.Common.{ap, ap₂, add-one, arith, eqb-true, eq-eqb, drop_of_length-le, drop-cons}
+use Rattle.std.specs.List.{list_all}
 use Rattle.words.specs.Lists.{same_bytes, all_zero, all_within}
 use Rattle.words.specs.BoolLaws.{and_left, and_right, and_true, and_false, and_assoc}
 
@@ -41,14 +42,16 @@ same_end a b i alike e l =
     let m : length b ≤ i = omega arith in
     rw (drop_of_length-le a l, drop_of_length-le b m) (and_true alike)
 
--- one more element is held to zero
-pub zero_more : (s : List ℕ) (i : ℕ) (clear : Bool) → i < length s → clear && all_zero (drop i s) ≡ (clear && eqb (get_or s i 0) 0) && all_zero (drop (i + 1) s)
+-- the tests as the library makes them
+pub zero-all : (s : List ℕ) → list_all (λ x. eqb x 0) s ≡ all_zero s
 unfolding all_zero
-zero_more s i clear l = rw (add-one, and_assoc, drop-cons s i 0)
+zero-all [] = refl
+zero-all (x ∷ s) = ap (λ (t : Bool). eqb x 0 && t) (zero-all s)
 
-pub zero-end : (s : List ℕ) (i : ℕ) (clear : Bool) → length s ≤ i → clear && all_zero (drop i s) ≡ clear
-unfolding all_zero
-zero-end s i clear l = rw (drop_of_length-le s l) (and_true clear)
+pub within-all : (low high : ℕ) (s : List ℕ) → list_all (λ x. leb low x && leb x high) s ≡ all_within low high s
+unfolding all_within
+within-all low high [] = refl
+within-all low high (x ∷ s) = ap (λ (t : Bool). (leb low x && leb x high) && t) (within-all low high s)
 
 -- what is left of copies after some of them
 pub drop-replicate : (k n a : ℕ) → drop k (replicate n a) ≡ replicate (n - k) a
@@ -58,14 +61,3 @@ drop-replicate (suc k) (suc n) a = let e : suc n - suc k ≡ n - k = omega arith
 
 pub drop_zeros : (k n : ℕ) → drop k (replicate {A = ℕ} n 0) ≡ replicate (n - k) 0
 drop_zeros k n = drop-replicate k n 0
-
--- ---- all_within
-
-pub within_more : (low high : ℕ) (s : List ℕ) (i : ℕ) (clean : Bool) → i < length s
-    → clean && all_within low high (drop i s) ≡ (clean && (leb low (get_or s i 0) && leb (get_or s i 0) high)) && all_within low high (drop (i + 1) s)
-unfolding all_within
-within_more low high s i clean h = rw (add-one, and_assoc, drop-cons s i 0)
-
-pub within_end : (low high : ℕ) (s : List ℕ) (i : ℕ) (clean : Bool) → length s ≤ i → clean && all_within low high (drop i s) ≡ clean
-unfolding all_within
-within_end low high s i clean h = rw (drop_of_length-le s h) (and_true clean)

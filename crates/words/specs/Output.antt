@@ -1,6 +1,7 @@
 -- What a function that stores its result in a lent output leaves there.
-use Rattle.std.specs.Prelude.{ℕ, ◌&&◌, cond, List, ◌++◌, eqb, leb, length, drop}
+use Rattle.std.specs.Prelude.{ℕ, Result, Ok, Err, ◌&&◌, cond, List, ◌++◌, eqb, leb, length, drop}
 use Rattle.words.specs.Codes.{done, bad_argument}
+use Rattle.words.specs.declared.codes.BadArgument.{BadArgument}
 
 -- the code, and the output after the call
 pub record Left : Type 0 where
@@ -13,3 +14,8 @@ stored code result out =
     cond (eqb code done && leb (length result) (length out))
     (record { code = done; out = result ++ drop (length result) out })
     (record { code = bad_argument; out = out })
+
+-- the same of a function that gives its result or refuses
+unfoldable pub answer_left : Result (List ℕ) BadArgument → List ℕ → Left
+answer_left (Ok result) out = stored done result out
+answer_left (Err refusal) out = record { code = bad_argument; out = out }

@@ -2,7 +2,6 @@
 use Rattle.std.specs.Prelude.{ℕ, ◌+◌, ◌-◌, ◌≤◌, ◌<◌, ◌≡◌, ◌⊎◌, List, [], ◌∷◌, ◌++◌, length, get_or, set, take, drop}
 use Rattle.std.proofs.Common.{sym, ap, subst, ◌∙◌, inl, inr, append_assoc, append-nil, add-zero, add-one, arith, length-append, length-drop, take-append-drop, drop_of_length-le, length-take-le, take_at, drop_at, drop-drop, get_or-take, get_or-drop, get_or-append-add}
 use Rattle.std.proofs.Math.ListN.{get_or-append}
-use Rattle.std.proofs.Math.Seq.{take-length}
 use Rattle.std.proofs.lemmas.List.{set_split}
 use Rattle.words.specs.Bytes.{put}
 
@@ -26,13 +25,13 @@ put_on s at a b h =
 
 -- a part of a lent buffer, copied over and given back
 pub put-part : (s : List ℕ) (at : ℕ) (b : List ℕ) {part : List ℕ} → at + length b ≤ length s
-    → part ≡ take (length b) b ++ drop (length b) (take (at + length b - at) (drop at s))
+    → part ≡ b ++ drop (length b) (take (at + length b - at) (drop at s))
     → take at s ++ (part ++ drop (at + length b - at) (drop at s)) ≡ put s at b
 put-part s at b h e =
     let n : at + length b - at ≡ length b = omega arith in
     let l : length (take (length b) (drop at s)) ≡ length b = length-take-le (length b) (drop at s) (rw length-drop (omega arith)) in
     let m : length (take (length b) (drop at s)) ≤ length b = omega arith in
-    rw (e, n, take-length b, drop_of_length-le (take (length b) (drop at s)) m, drop-drop (length b) at s, append-nil b)
+    rw (e, n, drop_of_length-le (take (length b) (drop at s)) m, drop-drop (length b) at s, append-nil b)
 
 pub set-put : (s : List ℕ) (at x : ℕ) → at < length s → set s at x ≡ put s at (x ∷ [])
 set-put s at x h = set_split s at x h ∙ rw (add-one at)

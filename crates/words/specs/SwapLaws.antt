@@ -1,9 +1,11 @@
 -- Laws of numbers with the lowest byte first, and of bytes in the other order.
 use Rattle.std.specs.Prelude.{ℕ, zero, suc, ◌+◌, ◌-◌, ◌*◌, ◌/◌, ◌%◌, ◌^◌, ◌≤◌, ◌<◌, ◌≡◌, refl, Bool, true, false, ◌&&◌, ◌||◌, List, [], ◌∷◌, ◌++◌, eqb, ltb, length, get_or, take, drop}
-use Rattle.std.proofs.Common.{sym, ap, ap₂, ◌∙◌, append-nil, add-zero, add_assoc, zero-add, pow-suc, mul_assoc, mod-lt, zero-lt-suc, mul-one, add-one, arith, ltb-false, eqb-true, eq-eqb, ne_eqb, length-drop, take-append-drop, drop-cons, take-add, drop-drop}
+use Rattle.std.proofs.Common.{sym, ap, ap₂, ◌∙◌, append-nil, add-zero, zero-add, pow-suc, mul_assoc, mod-lt, zero-lt-suc, mul-one, add-one, arith, ltb-false, eqb-true, eq-eqb, ne_eqb, length-drop, take-append-drop, drop-cons, take-add, drop-drop}
 use Rattle.std.proofs.Math.Nat.{div-div-eq-div-mul}
 use Rattle.std.proofs.lemmas.Bool.{eqb-false}
 use Rattle.std.proofs.Math.Seq.{take-length}
+use Rattle.std.specs.Int.{w64, from_le_bytes}
+use Rattle.std.specs.Int.{swap_bytes as int_swap}
 use Rattle.words.specs.Bytes.{AreBytes, be_at, le_at, swap_bytes, be_bytes}
 use Rattle.words.specs.BytesLaws.{be_at-split, be_at-be_bytes}
 use Rattle.words.specs.Lists.{all_zero}
@@ -19,32 +21,24 @@ le_at-front (suc k) s at =
     let p : g * (256 ^ k * 256) ≡ g * 256 ^ k * 256 = sym (mul_assoc g (256 ^ k) 256) in
     rw (le_at-front k s at, pow-suc, p, e) (omega arith)
 
--- four bytes, as they are written out
-pub four-read : (s : List ℕ) (at : ℕ) {a b c d : ℕ} → a ≡ get_or s at 0 → b ≡ get_or s (at + 1) 0 → c ≡ get_or s (at + 2) 0 → d ≡ get_or s (at + 3) 0
-    → a + b * 2 ^ 8 + c * 2 ^ 16 + d * 2 ^ 24 ≡ le_at 4 s at
+-- eight bytes, as the library's `from_le_bytes` reads them
+pub le-eight : (s : List ℕ) (at : ℕ) → from_le_bytes w64 (get_or s at 0 ∷ get_or s (at + 1) 0 ∷ get_or s (at + 2) 0 ∷ get_or s (at + 3) 0 ∷ get_or s (at + 4) 0 ∷ get_or s (at + 5) 0 ∷ get_or s (at + 6) 0 ∷ get_or s (at + 7) 0 ∷ []) ≡ le_at 8 s at
 unfolding le_at
-four-read s at p q r t = rw (p, q, r, t, add-zero at) (omega arith)
-
--- four bytes and the four behind them
-pub two_fours : (s : List ℕ) (at : ℕ) {x y : ℕ} → x ≡ le_at 4 s at → y ≡ le_at 4 s (at + 4) → x + y * 2 ^ 32 ≡ le_at 8 s at
-unfolding le_at
-two_fours s at p q = rw (p, q, add_assoc at 4 0, add_assoc at 4 1, add_assoc at 4 2, add_assoc at 4 3) (omega arith)
+le-eight s at = rw add-zero (omega arith)
 
 -- ---- the bytes in the other order
 
--- eight bytes, as they are written out
-pub eight_swapped : (x : ℕ)
-    → x % 256 * 2 ^ 56 + (x / 2 ^ 8 % 256 * 2 ^ 48 + (x / 2 ^ 16 % 256 * 2 ^ 40 + (x / 2 ^ 24 % 256 * 2 ^ 32 + (x / 2 ^ 32 % 256 * 2 ^ 24 + (x / 2 ^ 40 % 256 * 2 ^ 16 + (x / 2 ^ 48 % 256 * 2 ^ 8 + x / 2 ^ 56 % 256))))))
-    ≡ swap_bytes 8 x
+-- eight bytes, as the library swaps them
+pub swap-eight : (x : ℕ) → int_swap w64 x ≡ swap_bytes 8 x
 unfolding swap_bytes
-eight_swapped x =
+swap-eight x =
     let e₂ : x / 256 / 256 ≡ x / 2 ^ 16 = div-div-eq-div-mul x 256 256 in
     let e₃ : x / 256 / 256 / 256 ≡ x / 2 ^ 24 = ap (λ (y : ℕ). y / 256) e₂ ∙ div-div-eq-div-mul x (2 ^ 16) 256 in
     let e₄ : x / 256 / 256 / 256 / 256 ≡ x / 2 ^ 32 = ap (λ (y : ℕ). y / 256) e₃ ∙ div-div-eq-div-mul x (2 ^ 24) 256 in
     let e₅ : x / 256 / 256 / 256 / 256 / 256 ≡ x / 2 ^ 40 = ap (λ (y : ℕ). y / 256) e₄ ∙ div-div-eq-div-mul x (2 ^ 32) 256 in
     let e₆ : x / 256 / 256 / 256 / 256 / 256 / 256 ≡ x / 2 ^ 48 = ap (λ (y : ℕ). y / 256) e₅ ∙ div-div-eq-div-mul x (2 ^ 40) 256 in
     let e₇ : x / 256 / 256 / 256 / 256 / 256 / 256 / 256 ≡ x / 2 ^ 56 = ap (λ (y : ℕ). y / 256) e₆ ∙ div-div-eq-div-mul x (2 ^ 48) 256 in
-    rw (e₇, e₆, e₅, e₄, e₃, e₂, mul-one, add-zero)
+    rw (e₇, e₆, e₅, e₄, e₃, e₂, mul-one, add-zero) (omega arith)
 
 -- what was read lowest byte first
 pub swap_le : (k : ℕ) (s : List ℕ) (at : ℕ) → AreBytes s → swap_bytes k (le_at k s at) ≡ be_at k s at

@@ -7,6 +7,7 @@ use Rattle.std.proofs.Math.Arith.{lt-one, digits_lt, digits_mod, mod-mul, bin_in
 use Rattle.std.specs.Int.Bits.{bit_and, bit_or, bit_xor, differ, xor_step, xor_self, xor_zero_r}
 use Rattle.std.proofs.lemmas.Nat.{and_shr, and_mod, or_shr, or_mod, xor_mod, or_shifted, xor_shr, xor_block}
 use Rattle.std.proofs.Math.Pow.{pow-add, shr-shr, split, high, low, mod-pow-add, field, mod-mod-pow}
+use Rattle.std.specs.Int.{w32, rotate_left}
 use Rattle.words.specs.Words.{◌⊕◌, ◌⋘◌}
 
 -- the bits that a shift to the left keeps
@@ -23,6 +24,13 @@ module _ (x n : ℕ) (word : x < 2 ^ 32) (within : n ≤ 32) where
   pub or_rotates : bit_or (x * 2 ^ n % 2 ^ 32) (x / 2 ^ (32 - n)) ≡ x ⋘ n
   unfolding ◌⋘◌
   or_rotates = rw (shl-keeps x n within) (or_shifted (x % 2 ^ (32 - n)) n (x / 2 ^ (32 - n)) shr_below)
+
+  -- and so is the library's rotation, by any number of bits below 32
+  pub rotate-is : 0 < n → n < 32 → rotate_left w32 x n ≡ x ⋘ n
+  rotate-is a b =
+      let e : n % 32 ≡ n = omega arith in
+      let f : (32 - n) % 32 ≡ 32 - n = omega arith in
+      rw (e, f) or_rotates
 
   pub rotated_lt : x ⋘ n < 2 ^ 32
   unfolding ◌⋘◌

@@ -6,10 +6,10 @@ pub put_content-requires : goal.put_content-requires
 unfolding code_text
 put_content-requires c = rw c.code_text-code.ensures
 
-pub returns-in-Success : goal.returns-in-Success
+pub returns-in-Ok : goal.returns-in-Ok
 unfolding answer_text
-returns-in-Success c = rw (c.put_content.ensures, c.code_text-code.ensures, c.number_of.ensures, c.in-Success.is)
+returns-in-Ok c = rw (c.put_content.ensures, c.code_text-code.ensures, c.number_of.ensures, c.in-Ok.is)
 
-pub returns-in-Refused : goal.returns-in-Refused
+pub returns-in-Err : goal.returns-in-Err
 unfolding answer_text values_text
-returns-in-Refused c = rw (c.code_text-code.ensures, c.number_of.ensures, c.in-Refused.is, append-nil)
+returns-in-Err c = rw (c.code_text-code.ensures, c.number_of.ensures, c.in-Err.is, append-nil)

@@ -1,23 +1,30 @@
 use Rattle.std.proofs.Common.{ap₂}
+use Rattle.std.proofs.lemmas.Result.{err_from_is_err_and}
 use Rattle.words.specs.BoolLaws.{and_false}
 use Rattle.otp.specs.Password.{challenge_ok}
-use Rattle.otp.specs.TypedLaws.{typed-bad, typed-is}
+use Rattle.otp.specs.TypedLaws.{typed-given, typed-refused}
 use Rattle.token.specs.declared.lines.Request.{Request}
 use Rattle.desk.specs.Requests.{request_ok}
 use Rattle.desk.proofs.CallsLaws.{call-unfit, call-served}
 use Rattle.desk.proofs.calls.activate.Goals as goal
 
-pub returns-in_default : goal.returns-in_default
+pub returns-in_err-p : goal.returns-in_err-p
 unfolding request_ok
-returns-in_default c = call-unfit _ _ _ _ _ (rw (typed-bad _ c.password_of.ensures c.in_default.is))
+returns-in_err-p c =
+    let p = err_from_is_err_and c.from_residual.result c.from_residual.ensures.1 in
+    let refused = typed-refused _ _ c.password_of.ensures c.ok_or.ensures.value (c.in_err-p.was) in
+    rw (p.1, p.2, refused.1) (call-unfit _ _ _ _ _ (rw refused.0))
 
-pub returns-in_default-password_of : goal.returns-in_default-password_of
+pub returns-in_err-q : goal.returns-in_err-q
 unfolding request_ok
-returns-in_default-password_of c = call-unfit _ _ _ _ _ (rw (typed-bad _ c.password_of-2.ensures c.in_default-password_of.is, and_false))
+returns-in_err-q c =
+    let p = err_from_is_err_and c.from_residual-in_err-q.result c.from_residual-in_err-q.ensures.1 in
+    let refused = typed-refused _ _ c.password_of-2.ensures c.ok_or-2.ensures.value (c.in_err-q.was) in
+    rw (p.1, p.2, refused.1) (call-unfit _ _ _ _ _ (rw (refused.0, and_false)))
 
 pub returns : goal.returns
 unfolding request_ok challenge_ok
 returns c =
-    let first = typed-is _ c.password_of.ensures c.in-Is.is in
-    let second = typed-is _ c.password_of-2.ensures c.in-Is-password_of.is in
+    let first = typed-given _ _ c.password_of.ensures c.ok_or.ensures.value (c.in_ok-p.was) in
+    let second = typed-given _ _ c.password_of-2.ensures c.ok_or-2.ensures.value (c.in_ok-q.was) in
     call-served _ _ _ _ _ (rw (first.0, second.0)) (ap₂ Request.Activate first.1 second.1) c.serve.ensures

@@ -1,11 +1,14 @@
-use Rattle.message.proofs.ReadingLaws.{whole-read, item_refused, item-placed}
+use Rattle.std.proofs.Common.{◌≡◌, Ok, sym, ◌∙◌, rules}
+use Rattle.std.proofs.lemmas.Iterator.Consumers.{YieldsList-from_first, nth_from_yields_List}
+use Rattle.message.specs.Reading.{places_in}
+use Rattle.message.proofs.ReadingLaws.{read-said, item-placed}
 use Rattle.message.proofs.reading.item.Goals as goal
 
-pub place_of-requires : goal.place_of-requires
-place_of-requires c = (whole-read _ c.head_read.ensures c.in-Is.is).0
+pub returns-in_err-framed : goal.returns-in_err-framed
+returns-in_err-framed c = rw (read-said, ← c.framed_read.ensures) (search rules)
 
-pub returns-in-Refused : goal.returns-in-Refused
-returns-in-Refused c = item_refused _ c.head_read.ensures _ c.in-Refused.is
-
-pub returns-in-Is : goal.returns-in-Is
-returns-in-Is c = item-placed _ c.head_read.ensures _ c.in-Is.is c.place_of.ensures
+pub returns : goal.returns
+returns c =
+    let there = nth_from_yields_List c.nth.result _ c.args.index c.nth.ensures.ran (YieldsList-from_first (λ x. x) (λ rest. rest) (places_in c.in_ok-framed.framed) c.items.ensures) in
+    let framed : c.framed_read.result ≡ Ok c.in_ok-framed.framed = c.in_ok-framed.was in
+    item-placed c.args.message.now c.args.index (sym c.framed_read.ensures ∙ framed) there

@@ -1,40 +1,19 @@
-use Rattle.std.specs.Prelude.{refl}
-use Rattle.std.proofs.Math.Path.{◌∙◌}
-use Rattle.message_calls.specs.Serving.{only_these}
-use Rattle.message_calls.proofs.OnlyLaws.{only_one, only_two, only_three}
-use Rattle.message_calls.proofs.ItemLaws.{no_items}
+use Rattle.std.proofs.Common.{rules, tests, eq-eqb, ne_eqb}
+use Rattle.std.proofs.lemmas.Iterator.{YieldsList-from_slice}
+use Rattle.std.proofs.lemmas.Iterator.Search.{all_from_yields_List}
+use Rattle.message.specs.Message.{message_at}
+use Rattle.message_calls.specs.Finding.{has}
+use Rattle.message_calls.proofs.OnlyLaws.{only_items}
 use Rattle.message_calls.proofs.items.items_fit.Goals as goal
 
-pub returns-in-Login : goal.returns-in-Login
-returns-in-Login c = rw c.in-Login.is (c.has_only.ensures ∙ only_two _ 0x0003 refl)
+pub returns-then-count-wanted : goal.returns-then-count-wanted
+returns-then-count-wanted c =
+    let items = (message_at c.args.framed.now).items in
+    rw (← only_items c.args.service items, ne_eqb _ _ (rw (c.count.ensures, c.items_of-wanted.ensures) at c.if-count-wanted.true))
 
-pub returns-in-ChallengeLogin : goal.returns-in-ChallengeLogin
-returns-in-ChallengeLogin c = rw c.in-ChallengeLogin.is (c.has_only-in-ChallengeLogin.ensures ∙ only_three _ 0x0006 0x0007 refl)
-
-pub returns-in-Activate : goal.returns-in-Activate
-returns-in-Activate c = rw c.in-Activate.is (c.has_only-in-Activate.ensures ∙ only_three _ 0x0003 0x0004 refl)
-
-pub returns-in-Lock : goal.returns-in-Lock
-returns-in-Lock c = rw c.in-Lock.is (c.has_only-in-Lock.ensures ∙ only_one _)
-
-pub returns-in-Unlock : goal.returns-in-Unlock
-returns-in-Unlock c = rw c.in-Unlock.is (c.has_only-in-Unlock.ensures ∙ only_two _ 0x0003 refl)
-
-pub returns-in-Suspend : goal.returns-in-Suspend
-returns-in-Suspend c = rw c.in-Suspend.is (c.has_only-in-Suspend.ensures ∙ only_one _)
-
-pub returns-in-Resume : goal.returns-in-Resume
-returns-in-Resume c = rw c.in-Resume.is (c.has_only-in-Resume.ensures ∙ only_two _ 0x0003 refl)
-
-pub returns-in-Sync : goal.returns-in-Sync
-returns-in-Sync c = rw c.in-Sync.is (c.has_only-in-Sync.ensures ∙ only_three _ 0x0003 0x0004 refl)
-
-pub returns-in-Void : goal.returns-in-Void
-returns-in-Void c = rw c.in-Void.is (c.has_only-in-Void.ensures ∙ only_one _)
-
-pub returns-in-Query : goal.returns-in-Query
-returns-in-Query c = rw c.in-Query.is (c.has_only-in-Query.ensures ∙ only_one _)
-
-pub returns-in-NoCall : goal.returns-in-NoCall
-unfolding only_these
-returns-in-NoCall c = rw c.in-NoCall.is (no_items _ _ c.requires)
+pub returns : goal.returns
+returns c =
+    let items = (message_at c.args.framed.now).items in
+    let all = all_from_yields_List (λ id. has id items) _ _ c.all.result c.all.ensures.ran (YieldsList-from_slice c.items_of-wanted.result.now (cc)) (λ x b q k. search (rules, tests)) in
+    let as_many = rw (c.count.ensures, c.items_of-wanted.ensures) at c.if-count-wanted.false in
+    rw (all, c.items_of-wanted.ensures, ← only_items c.args.service items, eq-eqb _ _ as_many)

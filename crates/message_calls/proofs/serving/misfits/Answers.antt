@@ -1,6 +1,9 @@
-use Rattle.message_calls.proofs.ServingLaws.{judged}
+use Rattle.std.proofs.Common.{sym, ◌∙◌}
+use Rattle.message_calls.proofs.ServingLaws.{misfit-none, misfit-some}
 use Rattle.message_calls.proofs.serving.misfits.Goals as goal
 
+pub returns-in_default : goal.returns-in_default
+returns-in_default c = misfit-none _ (sym (rw c.heading.ensures at c.service_of.ensures) ∙ c.in_default.is)
+
 pub returns : goal.returns
-returns c =
-    judged _ _ c.requires.head_of c.requires.service_value c.has_call.ensures c.options_fit.ensures c.items_fit.ensures c.serial_fits.ensures
+returns c = rw c.fits.ensures (misfit-some _ (sym (rw c.heading.ensures at c.service_of.ensures) ∙ c.in-Some.is))

@@ -1,34 +1,33 @@
-use Rattle.std.specs.Prelude.{[]}
-use Rattle.std.proofs.Common.{arith}
-use Rattle.window.specs.PasswordAt.{password_at}
-use Rattle.message.specs.FrameLaws.{fits-long, fits-short}
-use Rattle.message.specs.HeadLaws.{whole-head}
-use Rattle.message_calls.proofs.ServingLaws.{malformed-refused, unfit-refused, fits-call, mac_refused, message-served}
+use Rattle.std.proofs.Common.{◌≡◌, Some, None, Err, arith}
+use Rattle.token.specs.declared.answers.Refusal.{Refusal}
+use Rattle.message_calls.proofs.ServingLaws.{malformed-refused, unfit-refused, mac_refused, no-call, message-served}
 use Rattle.message_calls.proofs.serving.serve_message.Goals as goal
 
-pub returns-in_default : goal.returns-in_default
-returns-in_default c = malformed-refused _ c.frame_of.ensures _ _ _ c.in_default.is
-
-pub misfits-requires : goal.misfits-requires
-misfits-requires c = record { head_of = whole-head _ c.frame_of.ensures c.in-Whole.is; service_value = c.service_of-service.ensures }
+pub returns-in_err-framed : goal.returns-in_err-framed
+returns-in_err-framed c =
+    let none : c.frame_of.result ≡ None = grind arith in
+    let answer : c.from_residual.result ≡ Err Refusal.BadMessage = grind arith in
+    rw answer (malformed-refused _ c.frame_of.ensures _ _ _ none)
 
 pub returns-then-is_reply-misfits : goal.returns-then-is_reply-misfits
 returns-then-is_reply-misfits c =
-    unfit-refused _ _ (whole-head _ c.frame_of.ensures c.in-Whole.is) c.service_of-service.ensures _ _ _ c.is_reply.ensures c.misfits.ensures c.if-is_reply-misfits.true
-
-pub mac_fits-requires : goal.mac_fits-requires
-mac_fits-requires c = let whole = whole-head _ c.frame_of.ensures c.in-Whole.is in
-    let long = fits-long _ whole.fits in
-    record { in_bounds = omega arith; message_len_bound = fits-short _ whole.fits (λ i. (c.shared_slice_known-1.given i).fits) }
+    let whole : c.frame_of.result ≡ Some c.in_ok-framed.framed = grind arith in
+    unfit-refused _ c.frame_of.ensures _ _ _ whole c.is_reply.ensures c.misfits.ensures c.if-is_reply-misfits.true
 
 pub returns-then-not-mac_fits : goal.returns-then-not-mac_fits
 returns-then-not-mac_fits c =
-    mac_refused _ _ (whole-head _ c.frame_of.ensures c.in-Whole.is) c.service_of-service.ensures _ _ _ c.is_reply.ensures c.misfits.ensures c.if-is_reply-misfits.false c.mac_fits.ensures c.if-not-mac_fits.true-raw
+    let whole : c.frame_of.result ≡ Some c.in_ok-framed.framed = grind arith in
+    mac_refused _ c.frame_of.ensures _ _ _ whole c.is_reply.ensures c.misfits.ensures c.if-is_reply-misfits.false c.mac_fits.ensures c.if-not-mac_fits.true-raw
 
-pub serve_call-requires : goal.serve_call-requires
-serve_call-requires c = let whole = whole-head _ c.frame_of.ensures c.in-Whole.is in
-    record { head_of = whole; service_value = c.service_of-service.ensures; message_value = fits-call _ _ whole c.service_of-service.ensures password_at 0 [] c.is_reply.ensures c.misfits.ensures c.if-is_reply-misfits.false }
+pub returns-in_err-service : goal.returns-in_err-service
+returns-in_err-service c =
+    let whole : c.frame_of.result ≡ Some c.in_ok-framed.framed = grind arith in
+    let none : c.service_of.result ≡ None = grind arith in
+    let answer : c.from_residual-in_err-service.result ≡ Err Refusal.NoService = grind arith in
+    rw answer (no-call _ c.frame_of.ensures _ _ _ whole c.is_reply.ensures c.misfits.ensures c.if-is_reply-misfits.false c.mac_fits.ensures c.if-not-mac_fits.false-raw (rw c.heading.ensures at c.service_of.ensures) none)
 
 pub returns : goal.returns
 returns c =
-    message-served _ _ (whole-head _ c.frame_of.ensures c.in-Whole.is) c.service_of-service.ensures _ _ _ c.is_reply.ensures c.misfits.ensures c.if-is_reply-misfits.false c.mac_fits.ensures c.if-not-mac_fits.false-raw c.serve_call.ensures
+    let whole : c.frame_of.result ≡ Some c.in_ok-framed.framed = grind arith in
+    let some : c.service_of.result ≡ Some c.in_ok-service.service = grind arith in
+    message-served _ c.frame_of.ensures _ _ _ whole c.is_reply.ensures c.misfits.ensures c.if-is_reply-misfits.false c.mac_fits.ensures c.if-not-mac_fits.false-raw (rw c.heading.ensures at c.service_of.ensures) some c.serve_call.ensures

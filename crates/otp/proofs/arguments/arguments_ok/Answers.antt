@@ -3,4 +3,4 @@ use Rattle.otp.proofs.arguments.arguments_ok.Goals as goal
 
 pub returns : goal.returns
 unfolding arguments_ok
-returns c = rw (c.is_given.ensures, c.is_given-2.ensures, c.is_below.ensures, c.challenge_ok.ensures)
+returns c = rw (c.is_some.ensures, c.is_some-2.ensures, c.is_below.ensures, c.challenge_ok.ensures)

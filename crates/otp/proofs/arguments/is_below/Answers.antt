@@ -1,4 +1,4 @@
 use Rattle.otp.proofs.arguments.is_below.Goals as goal
 
-pub returns-in-Present : goal.returns-in-Present
-returns-in-Present c = rw c.in-Present.is
+pub returns-in-Some : goal.returns-in-Some
+returns-in-Some c = rw c.in-Some.is

@@ -4,4 +4,5 @@ use Rattle.otp.proofs.chain.block_sum.Goals as goal
 
 pub returns : goal.returns
 returns c =
-    sum_of_halves c.args.p c.args.q c.joined-2.ensures c.joined-low.ensures c.joined-3.ensures c.joined.ensures (omega arith) (omega arith) c.wrapping_add_u64-low_sum.ensures.value c.wrapping_add_u64-high.ensures.value c.carry.ensures c.wrapping_add_u64-high_sum.ensures.value
+    sum_of_halves c.args.p c.args.q c.overflowing_add-low.result.1 c.joined-3.ensures c.joined.ensures c.joined-4.ensures c.joined-2.ensures (omega arith) (omega arith)
+    c.overflowing_add-low.ensures.value c.overflowing_add-low.ensures.overflow

@@ -1,9 +1,6 @@
-use Rattle.std.proofs.Common.{◌≡◌, ◌≤◌, ◌++◌, length, drop}
+use Rattle.std.proofs.Common.{◌≡◌, ◌++◌, drop}
 use Rattle.otp.specs.Password.{decimals}
 use Rattle.otp.proofs.cut.put_decimals.Given as goal
 
-abbrev pub invariant-loop-left : goal.invariant-loop-left
-invariant-loop-left l = (l.left ≤ l.n) × ((length l.out ≡ length l.initial.out) × (decimals l.left l.rest ++ drop l.left l.out ≡ decimals l.n l.x ++ drop l.n l.initial.out))
-
-abbrev pub decreases-loop-left : goal.decreases-loop-left
-decreases-loop-left l = l.left
+abbrev pub invariant-loop-i : goal.invariant-loop-i
+invariant-loop-i l = decimals l.i l.rest ++ drop l.i l.out ≡ decimals l.n l.x ++ drop l.n l.initial.out

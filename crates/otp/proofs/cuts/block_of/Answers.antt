@@ -1,8 +1,10 @@
-use Rattle.otp.specs.StepCutsLaws.{timed_block, counted_block}
+use Rattle.otp.specs.StepCuts.{step_block}
 use Rattle.otp.proofs.cuts.block_of.Goals as goal
 
 pub returns-then-timed : goal.returns-then-timed
-returns-then-timed c = timed_block c.args.timed c.args.s c.if-timed.true
+unfolding step_block
+returns-then-timed c = rw c.if-timed.true
 
-pub returns : goal.returns
-returns c = counted_block c.args.timed c.args.s c.if-timed.false
+pub returns-else-timed : goal.returns-else-timed
+unfolding step_block
+returns-else-timed c = rw c.if-timed.false

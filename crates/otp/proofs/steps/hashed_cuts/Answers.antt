@@ -6,7 +6,7 @@ pub pad-requires : goal.pad-requires
 pad-requires c = record { m_len = search rules; len_bound = omega (arith, c.put_bytes-at.ensures.value); m_value = key-behind c.args.key.now c.requires.key_len_bound c.put_bytes-at.ensures.value c.put_bytes-at.ensures.out_after }
 
 pub put_steps-requires : goal.put_steps-requires
-put_steps-requires c = record { w_len = search rules; at_bound = omega (arith, c.put_bytes-at.ensures.value, c.requires.key_len_bound); s_bound = c.requires.s_bound; n_bound = c.requires.n_bound }
+put_steps-requires c = record { at_bound = omega (arith, c.put_bytes-at.ensures.value, c.requires.key_len_bound); s_bound = c.requires.s_bound; n_bound = c.requires.n_bound }
 
 pub returns : goal.returns
 returns c =

@@ -9,7 +9,7 @@ pub returns-then-is_err-clause-answers : goal.returns-then-is_err-clause-answers
 returns-then-is_err-clause-answers g c = input_stopped (search rules) c.answer_pieces-last.ensures.leaves
 
 pub returns-clause-answers : goal.returns-clause-answers
-returns-clause-answers g c = input-ended (is_ok c.write_all.result) c.answer_pieces-last.ensures.leaves c.finish-written.ensures.by_index
+returns-clause-answers g c = input-ended (is_ok c.write_all.result) c.answer_pieces-last.ensures.leaves c.finish-written.ensures.printed
 
 pub returns-clause-output : goal.returns-clause-output
 returns-clause-output g c =
@@ -20,4 +20,4 @@ returns-clause-output g c =
     on_ok c.write_all.result
     (λ done.
     passes_all (g.W.Write.contents c.write_all.new.self) (from_ok last.result.outcome last.ensures.passes ok)
-    (from_ok last.result.outcome last.ensures.end ok) c.finish-written.ensures.by_index (from_ok c.write_all.result written done))
+    (from_ok last.result.outcome last.ensures.end ok) c.finish-written.ensures.printed (from_ok c.write_all.result written done))

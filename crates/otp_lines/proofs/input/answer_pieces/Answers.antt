@@ -1,4 +1,3 @@
-use Rattle.std.proofs.Common.{◌∙◌, rules}
 use Rattle.std.specs.Prelude.{is_ok}
 use Rattle.otp_lines.specs.StreamLaws.{leaves_none, leaves_more}
 use Rattle.lines.specs.TurnLaws.{on_ok, from_ok, turn_ends, turn_goes_on}
@@ -8,12 +7,8 @@ use Rattle.otp_lines.proofs.input.answer_pieces.Goals as goal
 pub loop-init : goal.loop-init
 loop-init g c =
     record {
-      line_len = c.requires.line_len;
-      piece_len = c.requires.piece_len;
-      out_len = c.requires.out_len;
-      n_bound = search rules;
-      leaves = leaves_none c.args.line.now;
-      passes = passes_none (g.R.Read.remaining c.args.input.now) (g.W.Write.contents c.args.output.now) c.args.line.now;
+      leaves = rw c.requires leaves_none;
+      passes = rw c.requires (passes_none (g.R.Read.remaining c.args.input.now) (g.W.Write.contents c.args.output.now));
     }
 
 pub returns-then-is_err-turn-clause-leaves : goal.returns-then-is_err-turn-clause-leaves
@@ -37,10 +32,6 @@ loop-preserved g c =
     let turn = c.answer_next-turn in
     let ok = turn_goes_on c.is_err.result (is_ok turn.result.outcome) turn.result.read c.is_err.ensures.negation c.if-is_err-turn.false in
     record {
-      line_len = turn.auto.line ∙ c.loop.invariant.line_len;
-      piece_len = turn.auto.piece ∙ c.loop.invariant.piece_len;
-      out_len = turn.auto.out ∙ c.loop.invariant.out_len;
-      n_bound = search rules;
       leaves = leaves_more c.loop.invariant.leaves turn.ensures.follows;
       passes = passes_more c.loop.invariant.passes turn.ensures.follows turn.ensures.taken (from_ok turn.result.outcome turn.ensures.written ok);
     }

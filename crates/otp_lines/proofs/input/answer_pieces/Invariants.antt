@@ -1,15 +1,10 @@
-use Rattle.std.proofs.Common.{◌≡◌, ◌≤◌, length}
 use Rattle.otp_lines.specs.Stream.{Leaves, Passes}
 use Rattle.otp_lines.proofs.input.answer_pieces.Given as goal
 
 abbrev pub invariant-loop : goal.invariant-loop
 invariant-loop g l =
     record {
-      line_len : length l.line ≡ 256;
-      piece_len : length l.piece ≡ 65536;
-      out_len : length l.out ≡ 720896;
-      n_bound : l.n ≤ 257;
-      leaves : Leaves l.line l.n;
+      leaves : Leaves l.line;
       passes :
-          Passes (g.R.Read.remaining l.initial.input) (g.R.Read.remaining l.input) (g.W.Write.contents l.initial.output) (g.W.Write.contents l.output) l.line l.n;
+          Passes (g.R.Read.remaining l.initial.input) (g.R.Read.remaining l.input) (g.W.Write.contents l.initial.output) (g.W.Write.contents l.output) l.line;
     }

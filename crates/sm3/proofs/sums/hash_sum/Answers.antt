@@ -5,7 +5,7 @@ use Rattle.sm3.proofs.sums.hash_sum.Goals as goal
 
 pub iterate-requires : goal.iterate-requires
 iterate-requires c = let fits = padded-fits c.args.len c.requires.len_bound in
-    record { n_in_bounds = omega (arith, c.pad-blocks.ensures.value, c.pad-blocks.auto.m); t_value = c.constants-t.ensures }
+    omega (arith, c.pad-blocks.ensures.value, c.pad-blocks.auto.m)
 
 pub returns : goal.returns
 returns c =

@@ -1,6 +1,5 @@
-use Rattle.std.proofs.Common.{refl}
 use Rattle.sm3_lanes.specs.FourLaws.{starts_spread}
 use Rattle.sm3_lanes.proofs.values.spread.Goals as goal
 
 pub returns : goal.returns
-returns c = record { result_len = refl; starts = starts_spread c.args.v }
+returns c = starts_spread c.args.v

@@ -1,9 +1,11 @@
-use Rattle.sm4.specs.EncryptLaws.{words-refused, words-done}
+use borrow.Author.Tests.{eq-eqb, ne_eqb}
+use Rattle.sm4.specs.Sm4.{encrypt_words_answer}
 use Rattle.sm4.proofs.chaining.encrypt_words.Goals as goal
 
 pub returns-then-keys-ne32 : goal.returns-then-keys-ne32
-returns-then-keys-ne32 c = words-refused c.args.keys.now c.args.block c.if-keys-ne32.true c.no_words.ensures
+unfolding encrypt_words_answer
+returns-then-keys-ne32 c = rw (ne_eqb _ 32 c.if-keys-ne32.true)
 
 pub returns : goal.returns
-returns c =
-    words-done c.args.keys.now c.args.block c.if-keys-ne32.false c.rounds.ensures c.output_words.ensures
+unfolding encrypt_words_answer
+returns c = rw (eq-eqb _ 32 c.if-keys-ne32.false, c.output_words.ensures, c.rounds.ensures)

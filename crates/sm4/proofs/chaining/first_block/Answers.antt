@@ -1,14 +1,11 @@
-use Rattle.std.proofs.Math.Path.{◌∙◌}
-use Rattle.sm4.specs.SidesLaws.{first-key-refused, first_block_refused, first_made}
+use Rattle.sm4.specs.Sm4.{sm4_of, encrypt_with, first_answer}
+use Rattle.sm4.specs.EncryptLaws.{either_wrong, both_right}
 use Rattle.sm4.proofs.chaining.first_block.Goals as goal
 
-pub returns-then-key-ne16 : goal.returns-then-key-ne16
-returns-then-key-ne16 c = c.refused_first.ensures ∙ first-key-refused c.args.key.now c.args.block.now c.if-key-ne16.true
-
-pub returns-then-block-ne16 : goal.returns-then-block-ne16
-returns-then-block-ne16 c =
-    c.refused_first-then-block-ne16.ensures ∙ first_block_refused c.args.key.now c.args.block.now c.if-key-ne16.false c.if-block-ne16.true
+pub returns-then-key-block : goal.returns-then-key-block
+unfolding first_answer
+returns-then-key-block c = either_wrong _ _ _ c.if-key-block.true
 
 pub returns : goal.returns
-returns c =
-    first_made c.args.key.now c.args.block.now c.if-key-ne16.false c.if-block-ne16.false c.sides_of-state.ensures.value c.sides_of-state.ensures.keys_after c.output_words.ensures
+unfolding first_answer sm4_of encrypt_with
+returns c = rw (c.output_words.ensures, c.sides_from-state.ensures.value, c.sides_from-state.ensures.keys_after, c.words_of.ensures) (both_right _ _ _ c.if-key-block.false)

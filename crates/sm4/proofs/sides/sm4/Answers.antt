@@ -1,14 +1,11 @@
-use Rattle.std.proofs.Math.Path.{◌∙◌}
-use Rattle.sm4.specs.SidesLaws.{sm4_key-refused, sm4_block_refused, sm4_made}
+use Rattle.sm4.specs.Sm4.{sm4_of, encrypt_with, sm4_answer}
+use Rattle.sm4.specs.EncryptLaws.{either_wrong, both_right}
 use Rattle.sm4.proofs.sides.sm4.Goals as goal
 
-pub returns-then-key-ne16 : goal.returns-then-key-ne16
-returns-then-key-ne16 c = c.refused.ensures ∙ sm4_key-refused c.args.key.now c.args.block.now c.if-key-ne16.true
-
-pub returns-then-block-ne16 : goal.returns-then-block-ne16
-returns-then-block-ne16 c =
-    c.refused-then-block-ne16.ensures ∙ sm4_block_refused c.args.key.now c.args.block.now c.if-key-ne16.false c.if-block-ne16.true
+pub returns-then-key-block : goal.returns-then-key-block
+unfolding sm4_answer
+returns-then-key-block c = either_wrong _ _ _ c.if-key-block.true
 
 pub returns : goal.returns
-returns c =
-    sm4_made c.args.key.now c.args.block.now c.if-key-ne16.false c.if-block-ne16.false c.sides_of-state.ensures.value c.reversed.ensures
+unfolding sm4_answer sm4_of encrypt_with
+returns c = rw (c.reversed.ensures, c.sides_from.ensures.value, c.words_of.ensures) (both_right _ _ _ c.if-key-block.false)

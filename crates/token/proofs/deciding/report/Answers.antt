@@ -1,4 +1,4 @@
 use Rattle.token.proofs.deciding.report.Goals as goal
 
 pub returns : goal.returns
-returns c = rw (c.telling-decision.ensures, c.line_of.ensures, c.waited.ensures)
+returns c = rw (c.telling.ensures, c.line_of.ensures, c.waited.ensures)

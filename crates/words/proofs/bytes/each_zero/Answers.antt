@@ -1,12 +1,8 @@
-use Rattle.std.proofs.Math.Path.{◌∙◌}
-use Rattle.std.proofs.Common.{sym, rules}
-use Rattle.words.specs.ListsLaws.{zero_more, zero-end}
+use Rattle.std.proofs.Common.{◌∙◌, rules, tests}
+use Rattle.std.proofs.lemmas.Iterator.{YieldsList-from_slice}
+use Rattle.std.proofs.lemmas.Iterator.Search.{all_from_yields_List}
+use Rattle.words.specs.ListsLaws.{zero-all}
 use Rattle.words.proofs.bytes.each_zero.Goals as goal
 
-pub loop-i-preserved : goal.loop-i-preserved
-loop-i-preserved c = let l = c.loop-i in
-    (search rules, sym (zero_more c.args.s.now l.i l.clear c.loop-i-test.true) ∙ l.invariant.1)
-
 pub returns : goal.returns
-returns c = let l = c.loop-i in
-    sym (zero-end c.args.s.now l.i l.clear c.loop-i-test.false) ∙ l.invariant.1
+returns c = all_from_yields_List _ _ _ _ c.all.ensures.ran (YieldsList-from_slice c.args.s.now cc) (λ x b q k. search (rules, tests)) ∙ zero-all c.args.s.now

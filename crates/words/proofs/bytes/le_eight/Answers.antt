@@ -1,5 +1,6 @@
-use Rattle.words.specs.SwapLaws.{two_fours}
+use Rattle.std.proofs.Common.{◌∙◌}
+use Rattle.words.specs.SwapLaws.{le-eight}
 use Rattle.words.proofs.bytes.le_eight.Goals as goal
 
 pub returns : goal.returns
-returns c = two_fours c.args.s.now c.args.at c.le_four.ensures.value c.le_four-2.ensures.value
+returns c = c.from_le_bytes.ensures ∙ le-eight c.args.s.now c.args.at

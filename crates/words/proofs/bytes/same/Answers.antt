@@ -1,19 +1,14 @@
-use Rattle.std.proofs.Math.Path.{◌∙◌}
-use Rattle.std.proofs.Common.{sym, rules}
+use Rattle.std.proofs.Common.{sym, ◌∙◌, arith}
 use Rattle.words.specs.ListsLaws.{same_lengths, same_more, same_end}
 use Rattle.words.proofs.bytes.same.Goals as goal
 
 pub returns-then-a-b : goal.returns-then-a-b
-returns-then-a-b c = let a = c.args in sym (same_lengths a.a.now a.b.now c.if-a-b.true)
+returns-then-a-b c = sym (same_lengths c.args.a.now c.args.b.now c.if-a-b.true)
 
 pub loop-i-preserved : goal.loop-i-preserved
-loop-i-preserved c = let a = c.args in
-    let l = c.loop-i in (
-      search rules,
-      sym (same_more a.a.now a.b.now l.i l.alike c.if-a-b.false c.loop-i-test.true) ∙ l.invariant.1,
-    )
+loop-i-preserved c =
+    sym (same_more c.args.a.now c.args.b.now c.loop-i.i c.loop-i.alike c.if-a-b.false c.loop-i-test.true) ∙ c.loop-i.invariant
 
 pub returns : goal.returns
-returns c = let a = c.args in
-    let l = c.loop-i in
-    sym (same_end a.a.now a.b.now l.i l.alike c.if-a-b.false c.loop-i-test.false) ∙ l.invariant.1
+returns c =
+    sym (same_end c.args.a.now c.args.b.now c.loop-i.i c.loop-i.alike c.if-a-b.false (omega arith)) ∙ c.loop-i.invariant

@@ -1,8 +1,6 @@
-use Rattle.std.proofs.Common.{arith}
-use Rattle.words.specs.WordsLaws.{or_rotates}
+use Rattle.std.proofs.Common.{◌∙◌, arith}
+use Rattle.words.specs.WordsLaws.{rotate-is}
 use Rattle.words.proofs.word.rotate_left.Goals as goal
 
--- Two shifts joined are the rotation.
-
 pub returns : goal.returns
-returns c = or_rotates c.args.x c.args.n (omega arith) (omega arith)
+returns c = c.rotate_left.ensures ∙ rotate-is c.args.x c.args.n (omega arith) (omega arith) (omega arith) (omega arith)

@@ -1,0 +1,5 @@
+use Rattle.message.specs.FrameLaws.{count-here}
+use Rattle.message.proofs.frame.Framed.count.Goals as goal
+
+pub returns : goal.returns
+returns c = rw (c.body.ensures.value, ← c.self.view_is) (count-here _ c.self.invariant.fits)

@@ -1,0 +1,9 @@
+use Rattle.std.proofs.Common.{arith}
+use Rattle.message.specs.FrameLaws.{fits-long}
+use Rattle.message.proofs.frame.Framed.mac_fits.Goals as goal
+
+pub mac_fits-requires-clause-in_bounds : goal.mac_fits-requires-clause-in_bounds
+mac_fits-requires-clause-in_bounds c = let long = fits-long _ c.self.invariant.fits in omega arith
+
+pub mac_fits-requires-clause-message_len_bound : goal.mac_fits-requires-clause-message_len_bound
+mac_fits-requires-clause-message_len_bound c = c.self.invariant.short

@@ -1,6 +1,0 @@
-use Rattle.sm4.specs.Sm4.{linear_key}
-use Rattle.sm4.proofs.round.linear_key.Goals as goal
-
-pub returns : goal.returns
-unfolding linear_key
-returns c = cc

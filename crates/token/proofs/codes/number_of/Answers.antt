@@ -1,4 +1,0 @@
-use Rattle.token.proofs.codes.number_of.Goals as goal
-
-pub returns-in-Refused : goal.returns-in-Refused
-returns-in-Refused c = rw c.in-Refused.is c.refusal_number.ensures
