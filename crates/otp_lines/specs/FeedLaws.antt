@@ -1,7 +1,7 @@
 -- What each function of the code returns, over what the functions that it calls ensure.
-use Rattle.std.specs.Prelude.{ℕ, Option, Some, None, nat_le, ◌+◌, ◌-◌, ◌*◌, ◌≤◌, ◌<◌, ◌≡◌, Bool, false, length, drop, set, replicate}
+use Rattle.std.specs.Prelude.{ℕ, Option, Some, None, ◌+◌, ◌-◌, ◌*◌, ◌≤◌, ◌<◌, ◌≡◌, Bool, false, length, drop, set, replicate}
 use Rattle.std.proofs.Math.Path.{refl}
-use Rattle.std.proofs.Common.{sym, ap, ◌∙◌, add-one, arith, leb-false, length-append, length-drop, take-append-drop, length-take-le, take-add, take_all, take-suc-set, take-take}
+use Rattle.std.proofs.Common.{sym, ap, ◌∙◌, add-one, arith, length-append, length-drop, take-append-drop, length-take-le, take-add, take_all, take-suc-set, take-take}
 use mathlib.Core.List.{List, [], ◌∷◌, ◌++◌, flatten, append_assoc, append-nil}
 use Rattle.std.proofs.Math.ListN.{take}
 use Rattle.std.proofs.lemmas.List.{length-replicate}
@@ -11,7 +11,8 @@ use Rattle.password_lines.specs.Line.{line_answer, refusal}
 use Rattle.password_lines.specs.LineLaws.{long-line, answer-length}
 use Rattle.lines.specs.Lines.{line_feed, behind, cut, last, kept, Put}
 use Rattle.lines.specs.LinesLaws.{pieces_do_not_matter, cut_line, cut-rest}
-use Rattle.words.specs.BoolLaws.{by-test, impossible, clash}
+use Rattle.lines.specs.BufferLaws.{kept-line, kept-long}
+use Rattle.words.specs.BoolLaws.{clash}
 use Rattle.otp_lines.specs.Stream.{answered, fed, finished, longest, Follows, Leaves, Answers}
 use Rattle.otp_lines.specs.StreamLaws.{answered_join}
 
@@ -48,24 +49,14 @@ module _ (s : List ℕ) (at : ℕ) (line : List ℕ) {text padded after : List �
 
 -- ---- the pending line
 
--- what is not kept is too long
+-- what is not kept is refused
 pub pending-long : (s : List ℕ) (at : ℕ) {after : List ℕ} {end : ℕ} (p : List ℕ) → None ≡ kept longest p
     → Put s at (refusal ++ (line_feed ∷ [])) after end → Put s at (answered p) after end
-pending-long s at p held d =
-    by-test (nat_le (length p) 256)
-    (λ t. let z : None ≡ Some p = rw t at held in impossible (cc))
-    (λ f. rw (long-line p (leb-false (length p) 256 f)) d)
-
--- what is kept is the line
-pub kept-is : {line : List ℕ} (p : List ℕ) → Some line ≡ kept longest p → line ≡ p
-kept-is {line} p held =
-    by-test (nat_le (length p) 256)
-    (λ t. let e : Some line ≡ Some p = rw t at held in cc)
-    (λ f. let z : Some line ≡ None = rw f at held in impossible (cc))
+pending-long s at p held d = rw (long-line p (kept-long longest p held)) d
 
 pub finish_none : (p : List ℕ) → Some [] ≡ kept longest p → [] ≡ finished p
 unfolding last flatten
-finish_none p held = rw (← kept-is p held)
+finish_none p held = rw (← kept-line longest p held)
 
 pub finish_line : {line : Option (List ℕ)} (s : List ℕ) {after : List ℕ} {end : ℕ} (p : List ℕ) → line ≡ kept longest p → (line ≡ Some [] → ⊥)
     → Put s 0 (answered p) after end → take end after ≡ finished p
