@@ -1,24 +1,25 @@
 -- What a turn over a piece of the input does, and what all turns together do.
 use Rattle.std.specs.Prelude.{ℕ, ◌≡◌, Bool, true, List, [], ◌++◌, Option, IfSome}
 use Rattle.std.specs.Io.KnownBytes.{Appends, Consumes}
-use Rattle.lines.specs.Lines.{lines_of, cut, Held}
+use Rattle.lines.specs.Lines.{lines_of, cut, kept}
 use Rattle.window.specs.PasswordAt.{PasswordRule}
+use Rattle.script.specs.Sizes.{longest}
 use Rattle.script.specs.Script.{Stage, served_all}
 
 -- a piece was served, whatever became of what it printed: the buffers hold the new pending line and the table after the lines that ended
-pub record Advances (passwords : PasswordRule) (line : List ℕ) (n : ℕ) (piece line' : List ℕ) (n' : ℕ) (stage after : Stage) : Type 0 where
-  pub pending : (p : List ℕ) → Held line n p → Held line' n' (cut p piece).pending
-  pub staged : (p : List ℕ) → Held line n p → after ≡ (served_all passwords (cut p piece).whole stage).stage
+pub record Advances (passwords : PasswordRule) (line : Option (List ℕ)) (piece : List ℕ) (line' : Option (List ℕ)) (stage after : Stage) : Type 0 where
+  pub pending : (p : List ℕ) → line ≡ kept longest p → line' ≡ kept longest (cut p piece).pending
+  pub staged : (p : List ℕ) → line ≡ kept longest p → after ≡ (served_all passwords (cut p piece).whole stage).stage
 
 -- some bytes of the input were served
-pub record AdvancesSome (passwords : PasswordRule) (line : List ℕ) (n : ℕ) (line' : List ℕ) (n' : ℕ) (stage after : Stage) : Type 0 where
+pub record AdvancesSome (passwords : PasswordRule) (line : Option (List ℕ)) (line' : Option (List ℕ)) (stage after : Stage) : Type 0 where
   pub bytes : List ℕ
-  pub advances : Advances passwords line n bytes line' n' stage after
+  pub advances : Advances passwords line bytes line' stage after
 
 -- an input was served up to the last line feed in it: the buffers hold the line that none has ended and the table after the lines before it
-pub record Leaves (passwords : PasswordRule) (stage : Stage) (line : List ℕ) (n : ℕ) (after : Stage) : Type 0 where
+pub record Leaves (passwords : PasswordRule) (stage : Stage) (line : Option (List ℕ)) (after : Stage) : Type 0 where
   pub input : List ℕ
-  pub pending : Held line n (cut [] input).pending
+  pub pending : line ≡ kept longest (cut [] input).pending
   pub staged : after ≡ (served_all passwords (cut [] input).whole stage).stage
 
 -- the first lines of an input were served, all of them where all was read and written out
@@ -33,14 +34,14 @@ pub record ServesInput (passwords : PasswordRule) (ok : Bool) (stage after : Sta
 -- ---- from a reader to a writer, of which `known` and `rest` are the bytes that the one had left before and after, and `old` and `new` those that the other held
 
 -- what the lines print that end in a piece stands behind what the writer held
-pub record Writes (passwords : PasswordRule) (line : List ℕ) (n : ℕ) (piece : List ℕ) (stage : Stage) (old new : Option (List ℕ)) : Type 0 where
-  pub printed : (p : List ℕ) → Held line n p → Appends old new (served_all passwords (cut p piece).whole stage).text
+pub record Writes (passwords : PasswordRule) (line : Option (List ℕ)) (piece : List ℕ) (stage : Stage) (old new : Option (List ℕ)) : Type 0 where
+  pub printed : (p : List ℕ) → line ≡ kept longest p → Appends old new (served_all passwords (cut p piece).whole stage).text
 
 -- the reader gave an input, and its lines were served up to the last line feed in it
-pub record Passes (passwords : PasswordRule) (known rest old new : Option (List ℕ)) (stage : Stage) (line : List ℕ) (n : ℕ) (after : Stage) : Type 0 where
+pub record Passes (passwords : PasswordRule) (known rest old new : Option (List ℕ)) (stage : Stage) (line : Option (List ℕ)) (after : Stage) : Type 0 where
   pub input : List ℕ
   pub taken : Consumes known rest input
-  pub pending : Held line n (cut [] input).pending
+  pub pending : line ≡ kept longest (cut [] input).pending
   pub printed : Appends old new (served_all passwords (cut [] input).whole stage).text
   pub staged : after ≡ (served_all passwords (cut [] input).whole stage).stage
 

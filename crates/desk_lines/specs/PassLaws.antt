@@ -3,10 +3,10 @@ use Rattle.std.specs.Prelude.{ℕ, ◌+◌, ◌≡◌, List, [], ◌++◌, take,
 use Rattle.std.proofs.Common.{refl}
 use Rattle.std.proofs.KnownBytes.{Appends-nil, Appends-trans, Consumes-nil, Consumes-trans, Consumes-whole}
 use Rattle.std.specs.Io.KnownBytes.{Appends, Consumes, IsAtEnd}
-use Rattle.lines.specs.Lines.{lines_of, cut, last, Held}
+use Rattle.lines.specs.Lines.{lines_of, cut, last, kept}
 use Rattle.lines.specs.LinesLaws.{pieces_do_not_matter, lines_cut}
-use Rattle.lines.specs.BufferLaws.{held_nothing}
 use Rattle.window.specs.PasswordAt.{PasswordRule}
+use Rattle.script.specs.Sizes.{longest}
 use Rattle.script.specs.Script.{Stage, served_all, start, output_of, Serves, Follows}
 use Rattle.script.specs.ScriptLaws.{served_join}
 use Rattle.script.specs.FillLaws.{rest, next-bytes}
@@ -15,19 +15,19 @@ use Rattle.desk_lines.specs.Input.{Advances, Writes, Passes, ServesAll}
 module _ (passwords : PasswordRule) where
   -- ---- a piece
 
-  pub writes_none : (line : List ℕ) (n : ℕ) (stage : Stage) (old : Option (List ℕ)) → Writes passwords line n [] stage old old
+  pub writes_none : (line : Option (List ℕ)) (stage : Stage) (old : Option (List ℕ)) → Writes passwords line [] stage old old
   unfolding cut served_all
-  writes_none line n stage old = record { printed = λ p h. Appends-nil old }
+  writes_none line stage old = record { printed = λ p h. Appends-nil old }
 
   -- lines were served to the front of the output, and that was written out
   front_printed : {lines : List (List ℕ)} {stage after : Stage} {out out' : List ℕ} {end : ℕ} (old new : Option (List ℕ))
       → Serves passwords lines stage after out 0 out' end → Appends old new (take end out') → Appends old new (served_all passwords lines stage).text
   front_printed old new serves written = rw serves.printed.front at written
 
-  pub writes_more : {line line' line'' out out' : List ℕ} {n n' n'' end : ℕ} (piece : List ℕ) (at used : ℕ) {stage middle after : Stage} {old new : Option (List ℕ)} (new' : Option (List ℕ))
-      → Writes passwords line n (take at piece) stage old new → Advances passwords line n (take at piece) line' n' stage middle
-      → Follows passwords line' n' (take used (rest piece at)) line'' n'' middle after out 0 out' end → Appends new new' (take end out')
-      → Writes passwords line n (take (at + used) piece) stage old new'
+  pub writes_more : {line line' line'' : Option (List ℕ)} {out out' : List ℕ} {end : ℕ} (piece : List ℕ) (at used : ℕ) {stage middle after : Stage} {old new : Option (List ℕ)} (new' : Option (List ℕ))
+      → Writes passwords line (take at piece) stage old new → Advances passwords line (take at piece) line' stage middle
+      → Follows passwords line' (take used (rest piece at)) line'' middle after out 0 out' end → Appends new new' (take end out')
+      → Writes passwords line (take (at + used) piece) stage old new'
   writes_more piece at used {stage} {old = old} {new} new' writes advances follows written =
       record {
         printed = λ p h.
@@ -46,15 +46,15 @@ module _ (passwords : PasswordRule) where
 
   -- ---- all turns
 
-  pub passes_none : (known old : Option (List ℕ)) (line : List ℕ) (stage : Stage) → Passes passwords known known old old stage line 0 stage
+  pub passes_none : (known old : Option (List ℕ)) (stage : Stage) → Passes passwords known known old old stage (Some []) stage
   unfolding cut served_all
-  passes_none known old line stage =
-      record { input = []; taken = Consumes-nil known; pending = held_nothing line; printed = Appends-nil old; staged = refl }
+  passes_none known old stage =
+      record { input = []; taken = Consumes-nil known; pending = refl; printed = Appends-nil old; staged = refl }
 
-  pub passes_more : {known rest rest' old new new' : Option (List ℕ)} {line line' : List ℕ} {n n' : ℕ} {piece : List ℕ} {stage middle after : Stage}
-      → Passes passwords known rest old new stage line n middle → Advances passwords line n piece line' n' middle after
-      → Writes passwords line n piece middle new new' → Consumes rest rest' piece
-      → Passes passwords known rest' old new' stage line' n' after
+  pub passes_more : {known rest rest' old new new' : Option (List ℕ)} {line line' : Option (List ℕ)} {piece : List ℕ} {stage middle after : Stage}
+      → Passes passwords known rest old new stage line middle → Advances passwords line piece line' middle after
+      → Writes passwords line piece middle new new' → Consumes rest rest' piece
+      → Passes passwords known rest' old new' stage line' after
   passes_more {known} {rest} {rest'} {old} {new} {new'} {piece = piece} {stage} passes advances writes taken =
       let p = (cut [] passes.input).pending in
       let whole = (cut [] passes.input).whole in
@@ -71,9 +71,9 @@ module _ (passwords : PasswordRule) where
       }
 
   -- the end of the input ends the line that was pending, and then all of its lines are served
-  pub passes_all : {known rest old new : Option (List ℕ)} (new' : Option (List ℕ)) {line out out' : List ℕ} {n end : ℕ} {stage middle after : Stage}
-      → Passes passwords known rest old new stage line n middle → IsAtEnd rest
-      → ((p : List ℕ) → Held line n p → Serves passwords (last p) middle after out 0 out' end) → Appends new new' (take end out')
+  pub passes_all : {known rest old new : Option (List ℕ)} (new' : Option (List ℕ)) {line : Option (List ℕ)} {out out' : List ℕ} {end : ℕ} {stage middle after : Stage}
+      → Passes passwords known rest old new stage line middle → IsAtEnd rest
+      → ((p : List ℕ) → line ≡ kept longest p → Serves passwords (last p) middle after out 0 out' end) → Appends new new' (take end out')
       → ServesAll passwords known old new' stage after
   passes_all {known} {rest} {old} {new} new' {stage = stage} {after = after} passes end finish written =
       let p = (cut [] passes.input).pending in

@@ -1,11 +1,11 @@
 // The whole input: read in pieces, and what its lines print written out.
-ghost use Rattle.std.specs.Prelude.{◌≡◌, ◌≤◌, length, take, is_ok, IfOk, IfSome, OnOk};
+ghost use Rattle.std.specs.Prelude.{◌≡◌, [], take, Some, is_ok, IfOk, IfSome, OnOk};
 ghost use Rattle.std.specs.Io.KnownBytes.{Appends, Consumes, IsAtEnd};
 ghost use Rattle.window.specs.PasswordAt.{password_at};
 ghost use Rattle.script.specs.Script.{start, stage_of, output_of};
 ghost use Rattle.desk_lines.specs.Input.{Advances, AdvancesSome, Leaves, ServesInput, Writes, Passes, ServesAll};
 
-use script::sizes::{LONGEST, OUTPUT};
+use script::sizes::OUTPUT;
 use script::state::{Pending, Stage, Table};
 use script::stream::{fill, finish};
 use std::io;
@@ -21,11 +21,9 @@ fn serve_piece<W: Write>(
     piece: &[u8],
     out: &mut [u8; OUTPUT],
 ) -> io::Result<()>
-    requires { pending.old.n ≤ 4097 }
-    ensures n_bound { pending.new.n ≤ 4097 }
-    ensures some { AdvancesSome password_at pending.old.line pending.old.n pending.new.line pending.new.n (stage_of table.old) (stage_of table.new) }
-    ensures advances { OnOk result (Advances password_at pending.old.line pending.old.n piece.now pending.new.line pending.new.n (stage_of table.old) (stage_of table.new)) }
-    ensures writes { OnOk result (Writes password_at pending.old.line pending.old.n piece.now (stage_of table.old) (W.contents to.old) (W.contents to.new)) }
+    ensures some { AdvancesSome password_at pending.old pending.new (stage_of table.old) (stage_of table.new) }
+    ensures advances { OnOk result (Advances password_at pending.old piece.now pending.new (stage_of table.old) (stage_of table.new)) }
+    ensures writes { OnOk result (Writes password_at pending.old piece.now (stage_of table.old) (W.contents to.old) (W.contents to.new)) }
 {
     let mut at = 0;
     while at < piece.len() {
@@ -45,13 +43,11 @@ fn serve_next<R: Read, W: Write>(
     piece: &mut [u8; PIECE],
     out: &mut [u8; OUTPUT],
 ) -> io::Result<usize>
-    requires { pending.old.n ≤ 4097 }
-    ensures n_bound { pending.new.n ≤ 4097 }
-    ensures some { AdvancesSome password_at pending.old.line pending.old.n pending.new.line pending.new.n (stage_of table.old) (stage_of table.new) }
-    ensures advances { IfOk result (λ read. Advances password_at pending.old.line pending.old.n (take read piece.new) pending.new.line pending.new.n (stage_of table.old) (stage_of table.new)) }
+    ensures some { AdvancesSome password_at pending.old pending.new (stage_of table.old) (stage_of table.new) }
+    ensures advances { IfOk result (λ read. Advances password_at pending.old (take read piece.new) pending.new (stage_of table.old) (stage_of table.new)) }
     ensures taken { IfOk result (λ read. Consumes (R.remaining input.old) (R.remaining input.new) (take read piece.new)) }
     ensures end { IfOk result (λ read. read ≡ 0 → IsAtEnd (R.remaining input.new)) }
-    ensures writes { IfOk result (λ read. Writes password_at pending.old.line pending.old.n (take read piece.new) (stage_of table.old) (W.contents to.old) (W.contents to.new)) }
+    ensures writes { IfOk result (λ read. Writes password_at pending.old (take read piece.new) (stage_of table.old) (W.contents to.old) (W.contents to.new)) }
 {
     let read = input.read(piece)?;
     serve_piece(to, pending, table, &piece[..read], out)?;
@@ -66,9 +62,9 @@ fn serve_pieces<R: Read, W: Write>(
     table: &mut Table,
     out: &mut [u8; OUTPUT],
 ) -> io::Result<()>
-    requires { pending.old.n ≡ 0 }
-    ensures leaves { Leaves password_at (stage_of table.old) pending.new.line pending.new.n (stage_of table.new) }
-    ensures passes { OnOk result (Passes password_at (R.remaining input.old) (R.remaining input.new) (W.contents to.old) (W.contents to.new) (stage_of table.old) pending.new.line pending.new.n (stage_of table.new)) }
+    requires { pending.old ≡ Some [] }
+    ensures leaves { Leaves password_at (stage_of table.old) pending.new (stage_of table.new) }
+    ensures passes { OnOk result (Passes password_at (R.remaining input.old) (R.remaining input.new) (W.contents to.old) (W.contents to.new) (stage_of table.old) pending.new (stage_of table.new)) }
     ensures end { OnOk result (IsAtEnd (R.remaining input.new)) }
 {
     let mut piece = [0u8; PIECE];
@@ -91,10 +87,7 @@ pub(crate) fn serve_input<R: Read, W: Write>(
     ensures serves_input { ServesInput password_at (is_ok result) (stage_of table.old) (stage_of table.new) }
     ensures serves_all { OnOk result (ServesAll password_at (R.remaining input.old) (W.contents to.old) (W.contents to.new) (stage_of table.old) (stage_of table.new)) }
 {
-    let mut pending = Pending {
-        line: [0; LONGEST],
-        n: 0,
-    };
+    let mut pending = Pending::new();
     let mut out = [0u8; OUTPUT];
     serve_pieces(input, to, &mut pending, table, &mut out)?;
     let end = finish(&pending, table, &mut out);

@@ -1,5 +1,5 @@
 -- What the loops over a piece of the input keep, and what `fill` returns.
-use Rattle.std.specs.Prelude.{ℕ, ◌+◌, ◌-◌, ◌*◌, ◌≤◌, ◌<◌, ◌≡◌, true, false, ◌&&◌, List, ◌++◌, leb, ltb, length, take, drop}
+use Rattle.std.specs.Prelude.{ℕ, ◌+◌, ◌-◌, ◌*◌, ◌≤◌, ◌<◌, ◌≡◌, true, false, ◌&&◌, Option, List, ◌++◌, leb, ltb, length, take, drop}
 use Rattle.std.proofs.Common.{arith, ltb-true, ltb-false, leb-true, leb-false, length-drop, take-add, take_all}
 use Rattle.words.specs.BoolLaws.{by-test, and_left, and_right}
 use Rattle.window.specs.PasswordAt.{PasswordRule}
@@ -31,25 +31,23 @@ module _ (passwords : PasswordRule) where
   -- ---- a piece, until the output is full
 
   -- what the loop of `fill` keeps
-  pub record Filling (line₀ : List ℕ) (n : ℕ) (stage : Stage) (piece out₀ line : List ℕ) (pending : ℕ) (after : Stage) (out : List ℕ) (at end : ℕ) : Type 0 where
-    pub marked : pending ≤ 4097
+  pub record Filling (line₀ : Option (List ℕ)) (stage : Stage) (piece out₀ : List ℕ) (line : Option (List ℕ)) (after : Stage) (out : List ℕ) (at end : ℕ) : Type 0 where
     pub within : at ≤ length piece
     pub room : end ≤ output_bytes
     pub begun : end ≤ most_text * at
-    pub follows : Follows passwords line₀ n (take at piece) line pending stage after out₀ 0 out end
+    pub follows : Follows passwords line₀ (take at piece) line stage after out₀ 0 out end
 
-  pub filling_begin : (line : List ℕ) (n : ℕ) (stage : Stage) (piece out : List ℕ) → n ≤ 4097 → Filling line n stage piece out line n stage out 0 0
-  filling_begin line n stage piece out marked =
+  pub filling_begin : (line : Option (List ℕ)) (stage : Stage) (piece out : List ℕ) → Filling line stage piece out line stage out 0 0
+  filling_begin line stage piece out =
       record {
-        marked = marked;
         within = omega arith;
         room = omega arith;
         begun = omega arith;
-        follows = follows-none passwords line n stage out 0;
+        follows = follows-none passwords line stage out 0;
       }
 
-  module _ {line₀ : List ℕ} {n : ℕ} {stage : Stage} {piece out₀ line : List ℕ} {pending : ℕ} {after : Stage} {out : List ℕ} {at end : ℕ}
-      (filling : Filling line₀ n stage piece out₀ line pending after out at end) where
+  module _ {line₀ : Option (List ℕ)} {stage : Stage} {piece out₀ : List ℕ} {line : Option (List ℕ)} {after : Stage} {out : List ℕ} {at end : ℕ}
+      (filling : Filling line₀ stage piece out₀ line after out at end) where
     -- the loop's test
     pub filling_open : ltb at (length piece) && leb end 65536 ≡ true → (at < length piece) × (end ≤ 65536)
     filling_open t =
@@ -57,16 +55,15 @@ module _ (passwords : PasswordRule) where
         let b = leb end 65536 in
         (ltb-true at (length piece) (and_left _ _ t), leb-true end 65536 (and_right a _ t))
 
-    pub filling_more : {line' out' : List ℕ} {used n' end' : ℕ} {after' : Stage} → ltb at (length piece) && leb end 65536 ≡ true
-        → used ≤ length (rest piece at) → (1 ≤ length (rest piece at) → 1 ≤ used) → n' ≤ 4097 → end' ≤ end + most_text
-        → Follows passwords line pending (take used (rest piece at)) line' n' after after' out end out' end'
-        → Filling line₀ n stage piece out₀ line' n' after' out' (at + used) end'
-    filling_more {used = used} t part begins marked room f =
+    pub filling_more : {line' : Option (List ℕ)} {out' : List ℕ} {used end' : ℕ} {after' : Stage} → ltb at (length piece) && leb end 65536 ≡ true
+        → used ≤ length (rest piece at) → (1 ≤ length (rest piece at) → 1 ≤ used) → end' ≤ end + most_text
+        → Follows passwords line (take used (rest piece at)) line' after after' out end out' end'
+        → Filling line₀ stage piece out₀ line' after' out' (at + used) end'
+    filling_more {used = used} t part begins room f =
         let more = filling_open t in
         let some = begins (piece_left piece at more.0) in
         let m = rest-length piece at in
         record {
-          marked = marked;
           within = omega arith;
           room = omega arith;
           begun = omega (arith, filling.begun);

@@ -12,9 +12,9 @@ use Rattle.std.proofs.lemmas.List.{length-replicate}
 use Rattle.std.proofs.Math.Seq.{take-length}
 use Rattle.words.specs.ListsLaws.{same_lengths}
 use Rattle.words.specs.BoolLaws.{by-test, either}
-use Rattle.lines.specs.Lines.{line_feed, cut, last, Held, Put}
+use Rattle.lines.specs.Lines.{line_feed, cut, last, kept, Put}
 use Rattle.lines.specs.LinesLaws.{cut_line, cut-rest}
-use Rattle.lines.specs.BufferLaws.{held_nothing, held_none, held-some}
+use Rattle.lines.specs.BufferLaws.{kept-line, kept-long}
 use Rattle.words.specs.Search.{index_of, slice}
 use Rattle.window.specs.PasswordAt.{PasswordRule}
 use Rattle.row.specs.Row.{row_bytes}
@@ -23,6 +23,7 @@ use Rattle.call_lines.specs.LineLaws.{not_made_lem, line-long}
 use Rattle.script.specs.Script.{rows_text, rows_of, is_table, Stage, Served, serves, later_line, first_line, served, stage_in, Serves, Follows}
 use Rattle.script.specs.ScriptLaws.{serves-one, serves-none}
 use Rattle.script.specs.RowsLaws.{line-put}
+use Rattle.script.specs.Sizes.{longest}
 
 -- ---- a line's answer
 
@@ -102,33 +103,33 @@ module _ (passwords : PasswordRule) (fresh : Bool) (rows : ℕ) (line table : Li
 abbrev refusal_text : List ℕ
 refusal_text = 0x39 ∷ 0x30 ∷ 0x30 ∷ 0x35 ∷ line_feed ∷ []
 
-module _ (passwords : PasswordRule) (line : List ℕ) (n : ℕ) (size : length line ≡ 4096) (p : List ℕ) (held : Held line n p) where
-  long-served : (stage : Stage) → 4096 < n → served passwords p stage ≡ serves refusal_text stage.table
+module _ (passwords : PasswordRule) (p : List ℕ) (held : None ≡ kept longest p) where
+  long-served : (stage : Stage) → served passwords p stage ≡ serves refusal_text stage.table
   unfolding served later_line rows_of
-  long-served stage l =
-      let m : 4096 < length p = omega (arith, size, held.long (omega (arith, size))) in
+  long-served stage =
+      let m = kept-long longest p held in
       let other : is_table p ≡ false = same_lengths p (0x74 ∷ 0x61 ∷ 0x62 ∷ 0x6c ∷ 0x65 ∷ []) (λ e. absurd (omega arith)) in
       rw (lt-leb (length p) 4096 m, other, not_made_lem passwords p stage.table (line-long p m)) (either (λ (r : Served). r ≡ serves refusal_text stage.table) stage.fresh refl refl)
 
-  pub pending-long : (fresh : Bool) (rows : ℕ) (table : List ℕ) {out out' : List ℕ} {at end : ℕ} → 4096 < n → Put out at refusal_text out' end
+  pub pending-long : (fresh : Bool) (rows : ℕ) (table : List ℕ) {out out' : List ℕ} {at end : ℕ} → Put out at refusal_text out' end
       → Serves passwords (p ∷ []) (stage_in fresh rows table) (stage_in false rows table) out at out' end
-  pending-long fresh rows table l put =
-      serves-one passwords (rw (long-served (stage_in fresh rows table) l) put) (rw (long-served (stage_in fresh rows table) l))
+  pending-long fresh rows table put =
+      serves-one passwords (rw (long-served (stage_in fresh rows table)) put) (rw (long-served (stage_in fresh rows table)))
 
-  pub pending-short : {stage after : Stage} {out out' : List ℕ} {at end : ℕ} → n ≤ 4096
-      → Serves passwords (take n line ∷ []) stage after out at out' end → Serves passwords (p ∷ []) stage after out at out' end
-  pending-short l f = rw (held.short (omega (arith, size))) f
+pub pending-short : (passwords : PasswordRule) {line : List ℕ} (p : List ℕ) → Some line ≡ kept longest p → {stage after : Stage} {out out' : List ℕ} {at end : ℕ}
+    → Serves passwords (line ∷ []) stage after out at out' end → Serves passwords (p ∷ []) stage after out at out' end
+pending-short passwords p held f = rw (← kept-line longest p held) f
 
 -- ---- a piece of the input
 
-module _ (passwords : PasswordRule) (line : List ℕ) (n : ℕ) (piece : List ℕ) {found : ℕ} (index : found ≡ 0 + index_of line_feed (slice 0 (length piece) piece))
-    {line' : List ℕ} {m : ℕ} (longer : (p : List ℕ) → Held line n p → Held line' m (p ++ take found piece)) where
+module _ (passwords : PasswordRule) (line : Option (List ℕ)) (piece : List ℕ) {found : ℕ} (index : found ≡ 0 + index_of line_feed (slice 0 (length piece) piece))
+    {line' : Option (List ℕ)} (longer : (p : List ℕ) → line ≡ kept longest p → line' ≡ kept longest (p ++ take found piece)) where
   index_is : found ≡ index_of line_feed piece
   unfolding slice
   index_is = let e : found ≡ 0 + index_of line_feed piece = rw take-length at index in omega arith
 
   pub piece_pending : (stage : Stage) (out : List ℕ) (at : ℕ) → found ≡ length piece
-      → Follows passwords line n (take found piece) line' m stage stage out at out at
+      → Follows passwords line (take found piece) line' stage stage out at out at
   piece_pending stage out at e =
       let all : take found piece ≡ piece = rw (e, take-length) in
       let over : (p : List ℕ) → cut p piece ≡ record { whole = []; pending = p ++ piece } = λ p. cut-rest p piece (sym index_is ∙ e) in
@@ -138,25 +139,25 @@ module _ (passwords : PasswordRule) (line : List ℕ) (n : ℕ) (piece : List �
       }
 
   pub piece_line : {stage after : Stage} {out out' : List ℕ} {at end : ℕ} → found < length piece
-      → ((p : List ℕ) → Held line' m p → Serves passwords (p ∷ []) stage after out at out' end)
-      → Follows passwords line n (take (found + 1) piece) line' 0 stage after out at out' end
+      → ((p : List ℕ) → line' ≡ kept longest p → Serves passwords (p ∷ []) stage after out at out' end)
+      → Follows passwords line (take (found + 1) piece) (Some []) stage after out at out' end
   piece_line l answer =
       let i = index_is in
       let up : (p : List ℕ) → cut p (take (found + 1) piece) ≡ record { whole = (p ++ take found piece) ∷ []; pending = [] } = λ p. rw i (cut_line p piece (rw i at l)) in
       record {
-        pending = λ p h. rw (up p) (held_nothing line');
+        pending = λ p h. rw (up p) refl;
         serving = λ p h. rw (up p) (answer (p ++ take found piece) (longer p h));
       }
 
 -- ---- the end of the input
 
-module _ (passwords : PasswordRule) (line : List ℕ) (n : ℕ) where
-  pub end_none : (stage : Stage) (out : List ℕ) (p : List ℕ) → Held line n p → n ≡ 0 → Serves passwords (last p) stage stage out 0 out 0
+module _ (passwords : PasswordRule) {line : Option (List ℕ)} where
+  pub end_none : (stage : Stage) (out : List ℕ) (p : List ℕ) → line ≡ kept longest p → line ≡ Some [] → Serves passwords (last p) stage stage out 0 out 0
   unfolding last
-  end_none stage out p held z = rw (held_none line n p held z) (serves-none passwords stage out 0)
+  end_none stage out p held z = rw (← kept-line longest p (sym z ∙ held)) (serves-none passwords stage out 0)
 
-  pub end_line : {stage after : Stage} {out out' : List ℕ} {end : ℕ} (p : List ℕ) → Held line n p → (n ≡ 0 → ⊥)
+  pub end_line : {stage after : Stage} {out out' : List ℕ} {end : ℕ} (p : List ℕ) → line ≡ kept longest p → (line ≡ Some [] → ⊥)
       → Serves passwords (p ∷ []) stage after out 0 out' end → Serves passwords (last p) stage after out 0 out' end
   unfolding last
-  end_line [] held z f = absurd (z (held-some line n held))
+  end_line [] held z f = absurd (z held)
   end_line (b ∷ p) held z f = f

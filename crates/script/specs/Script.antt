@@ -2,11 +2,12 @@
 use Rattle.std.specs.Prelude.{ℕ, zero, suc, ◌*◌, ◌/◌, ◌%◌, ◌≡◌, Bool, true, false, ◌&&◌, cond, List, [], ◌∷◌, ◌++◌, leb, length, take, drop, replicate, Option, Some, None}
 use Rattle.words.specs.Lists.{same_bytes}
 use Rattle.text.specs.Text.{hex_digit, comma, decimal_of}
-use Rattle.lines.specs.Lines.{line_feed, lines_of, cut, Held, Put}
+use Rattle.lines.specs.Lines.{line_feed, lines_of, cut, kept, Put}
 use Rattle.window.specs.PasswordAt.{PasswordRule}
 use Rattle.row.specs.Row.{row_bytes}
 use Rattle.call_lines.specs.Line.{line_after}
 use Rattle.script.specs.declared.state.Table.{Table}
+use Rattle.script.specs.Sizes.{longest}
 
 -- ---- the table as text
 
@@ -96,8 +97,8 @@ pub record Serves (passwords : PasswordRule) (lines : List (List ℕ)) (stage af
   pub printed : Put out at (served_all passwords lines stage).text out' end
   pub staged : after ≡ (served_all passwords lines stage).stage
 
--- a piece was fed: the buffer holds the new pending line, and the lines that ended were served
-pub record Follows (passwords : PasswordRule) (line : List ℕ) (n : ℕ) (piece line' : List ℕ) (n' : ℕ)
+-- a piece was fed: what is kept of the pending line is that of the new one, and the lines that ended were served
+pub record Follows (passwords : PasswordRule) (line : Option (List ℕ)) (piece : List ℕ) (line' : Option (List ℕ))
     (stage after : Stage) (out : List ℕ) (at : ℕ) (out' : List ℕ) (end : ℕ) : Type 0 where
-  pub pending : (p : List ℕ) → Held line n p → Held line' n' (cut p piece).pending
-  pub serving : (p : List ℕ) → Held line n p → Serves passwords (cut p piece).whole stage after out at out' end
+  pub pending : (p : List ℕ) → line ≡ kept longest p → line' ≡ kept longest (cut p piece).pending
+  pub serving : (p : List ℕ) → line ≡ kept longest p → Serves passwords (cut p piece).whole stage after out at out' end

@@ -1,12 +1,13 @@
 -- What is printed does not change with how the input is cut into pieces, nor with when what was printed so far is written out.
-use Rattle.std.specs.Prelude.{ℕ, ◌≡◌, take}
+use Rattle.std.specs.Prelude.{ℕ, ◌≡◌, take, Option, Some}
 use Rattle.std.proofs.Math.Path.{refl, ap}
 use Rattle.std.proofs.Common.{sym, ◌∙◌, arith}
 use mathlib.Core.List.{List, [], ◌∷◌, ◌++◌, append_assoc, append-nil}
-use Rattle.lines.specs.Lines.{cut, last, Held, Put}
+use Rattle.lines.specs.Lines.{cut, last, kept, Put}
 use Rattle.lines.specs.LinesLaws.{pieces_do_not_matter, lines_cut}
-use Rattle.lines.specs.BufferLaws.{held_nothing, put_join}
+use Rattle.lines.specs.BufferLaws.{put_join}
 use Rattle.window.specs.PasswordAt.{PasswordRule}
+use Rattle.script.specs.Sizes.{longest}
 use Rattle.script.specs.Script.{Stage, following, served, served_all, start, output_of, Serves, Follows}
 
 module _ (passwords : PasswordRule) where
@@ -44,13 +45,13 @@ module _ (passwords : PasswordRule) where
         staged = rw (served_join a b stage, ← f.staged) g.staged;
       }
 
-  pub follows-none : (line : List ℕ) (n : ℕ) (stage : Stage) (out : List ℕ) (at : ℕ) → Follows passwords line n [] line n stage stage out at out at
+  pub follows-none : (line : Option (List ℕ)) (stage : Stage) (out : List ℕ) (at : ℕ) → Follows passwords line [] line stage stage out at out at
   unfolding cut
-  follows-none line n stage out at = record { pending = λ p h. h; serving = λ p h. serves-none stage out at }
+  follows-none line stage out at = record { pending = λ p h. h; serving = λ p h. serves-none stage out at }
 
-  pub follows_join : {line line₁ line₂ a b : List ℕ} {n n₁ n₂ : ℕ} {stage middle after : Stage} {out out₁ out₂ : List ℕ} {at end stop : ℕ}
-      → Follows passwords line n a line₁ n₁ stage middle out at out₁ end → Follows passwords line₁ n₁ b line₂ n₂ middle after out₁ end out₂ stop
-      → Follows passwords line n (a ++ b) line₂ n₂ stage after out at out₂ stop
+  pub follows_join : {line line₁ line₂ : Option (List ℕ)} {a b : List ℕ} {stage middle after : Stage} {out out₁ out₂ : List ℕ} {at end stop : ℕ}
+      → Follows passwords line a line₁ stage middle out at out₁ end → Follows passwords line₁ b line₂ middle after out₁ end out₂ stop
+      → Follows passwords line (a ++ b) line₂ stage after out at out₂ stop
   follows_join {a = a} {b} f g =
       record {
         pending = λ p h. rw (pieces_do_not_matter p a b) (g.pending (cut p a).pending (f.pending p h));
@@ -69,11 +70,11 @@ module _ (passwords : PasswordRule) where
   written_join {a} {b} {stage} f g = rw (served_join a b stage, ← f.staged, served-text f, served-text g)
 
   -- from an empty buffer to the end of the input the output is printed
-  pub follows_output : {line input line' : List ℕ} {m : ℕ} {middle after : Stage} {out out₁ out₂ out₃ : List ℕ} {end stop : ℕ}
-      → Follows passwords line 0 input line' m start middle out 0 out₁ end
-      → ((p : List ℕ) → Held line' m p → Serves passwords (last p) middle after out₂ 0 out₃ stop)
+  pub follows_output : {input : List ℕ} {line' : Option (List ℕ)} {middle after : Stage} {out out₁ out₂ out₃ : List ℕ} {end stop : ℕ}
+      → Follows passwords (Some []) input line' start middle out 0 out₁ end
+      → ((p : List ℕ) → line' ≡ kept longest p → Serves passwords (last p) middle after out₂ 0 out₃ stop)
       → take end out₁ ++ take stop out₃ ≡ output_of passwords input
   unfolding output_of
-  follows_output {line} {input} f g =
-      written_join (f.serving [] (held_nothing line)) (g (cut [] input).pending (f.pending [] (held_nothing line)))
+  follows_output {input} f g =
+      written_join (f.serving [] refl) (g (cut [] input).pending (f.pending [] refl))
       ∙ ap (λ (ls : List (List ℕ)). (served_all passwords ls start).text) (sym (lines_cut input))

@@ -2,6 +2,10 @@
 use Rattle.std.specs.Prelude.{ℕ, ◌+◌, ◌*◌}
 use Rattle.row.specs.Row.{row_bytes}
 
+-- the longest line that is kept: a longer one is refused whatever it holds
+abbrev pub longest : ℕ
+longest = 4096
+
 -- all rows of a table
 abbrev pub table_bytes : ℕ
 table_bytes = 256 * row_bytes

@@ -1,14 +1,13 @@
 // What a line does to the table, and what it prints.
 ghost use Rattle.std.specs.Prelude.{◌≡◌, cond, None, List, [], ◌∷◌, ◌++◌, ℕ, ◌+◌, ◌*◌, ◌≤◌, length, IfSome};
-ghost use Rattle.lines.specs.Lines.{line_feed, Held, Put};
+ghost use Rattle.lines.specs.Lines.{line_feed, kept, Put};
 ghost use Rattle.window.specs.PasswordAt.{password_at};
 ghost use Rattle.row.specs.Row.{row_bytes};
 ghost use Rattle.call_lines.specs.Line.{line_after};
-ghost use Rattle.script.specs.Sizes.{most_text};
+ghost use Rattle.script.specs.Sizes.{longest, most_text};
 ghost use Rattle.script.specs.Script.{rows_of, later_line, stage_of, Serves};
 
 use crate::rows::{put_rows, rows_of};
-use crate::sizes::LONGEST;
 use crate::state::{Pending, Stage, Table};
 use call_lines::serve_line;
 use lines::{LINE_FEED, put};
@@ -74,18 +73,18 @@ impl Table {
     }
 }
 
-impl Pending {
-    // Serves the pending line, which has ended.
-    pub(crate) fn serve(&self, table: &mut Table, out: &mut [u8], at: usize) -> usize
-        requires { at + most_text ≤ length out.old }
-        ensures upper_bound { result ≤ at + most_text }
-        ensures by_index { (p : List ℕ) → Held self.now.line self.now.n p → Serves password_at (p ∷ []) (stage_of table.old) (stage_of table.new) out.old at out.new result }
-    {
-        if LONGEST < self.n {
+// Serves the pending line, which has ended.
+pub(crate) fn serve_pending(line: &Pending, table: &mut Table, out: &mut [u8], at: usize) -> usize
+    requires { at + most_text ≤ length out.old }
+    ensures upper_bound { result ≤ at + most_text }
+    ensures serves { (p : List ℕ) → line.now ≡ kept longest p → Serves password_at (p ∷ []) (stage_of table.old) (stage_of table.new) out.old at out.new result }
+{
+    match line.line() {
+        Some(line) => table.serve(line, out, at),
+        None => {
             let Stage { rows, .. } = table.stage;
             table.stage = Stage { fresh: false, rows };
-            return put(out, at, b"9005\n");
+            put(out, at, b"9005\n")
         }
-        table.serve(&self.line[..self.n], out, at)
     }
 }

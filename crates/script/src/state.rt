@@ -3,12 +3,8 @@ ghost use Rattle.std.specs.Prelude.{◌≤◌};
 
 use crate::sizes::{LONGEST, TABLE};
 
-// The line that no line feed has ended yet: the first n bytes. One more than the buffer has stands for the length of a longer line.
-#[derive(Drop)]
-pub struct Pending {
-    pub line: [u8; LONGEST],
-    pub n: usize,
-}
+// The line that no line feed has ended yet.
+pub type Pending = lines::Pending<LONGEST>;
 
 // Whether no line was read yet, and how many rows the table has: a table may stand before the first line.
 #[derive(Clone, Copy)]

@@ -6,4 +6,4 @@ use Rattle.desk_lines.proofs.input.serve_next.Goals as goal
 
 pub returns-in_err-read-clause-some : goal.returns-in_err-read-clause-some
 returns-in_err-read-clause-some g c =
-    record { bytes = []; advances = advances-none password_at c.args.pending.now.line c.args.pending.now.n (stage_of c.args.table.now) }
+    record { bytes = []; advances = advances-none password_at c.args.pending.now (stage_of c.args.table.now) }

@@ -8,15 +8,15 @@ use Rattle.desk_lines.proofs.input.serve_piece.Goals as goal
 pub loop-at-init : goal.loop-at-init
 loop-at-init g c =
     record {
-      serving = serving_begin password_at c.args.pending.now.line c.args.pending.now.n (stage_of c.args.table.now) c.args.piece.now c.requires;
-      writes = writes_none password_at c.args.pending.now.line c.args.pending.now.n (stage_of c.args.table.now) (g.W.Write.contents c.args.to.now);
+      serving = serving_begin password_at c.args.pending.now (stage_of c.args.table.now) c.args.piece.now;
+      writes = writes_none password_at c.args.pending.now (stage_of c.args.table.now) (g.W.Write.contents c.args.to.now);
     }
 
 pub loop-at-preserved : goal.loop-at-preserved
 loop-at-preserved g c =
     let fed = c.fill-fed.ensures in
     record {
-      serving = serving_more password_at c.loop-at.invariant.serving fed.used_in_bounds fed.n_bound fed.follows;
+      serving = serving_more password_at c.loop-at.invariant.serving fed.used_in_bounds fed.follows;
       writes =
           writes_more password_at c.args.piece.now c.loop-at.at c.fill-fed.result.used (g.W.Write.contents c.write_all.new.self) c.loop-at.invariant.writes
           c.loop-at.invariant.serving.advances fed.follows c.in_ok-write_all.ensures.bytes;
@@ -27,5 +27,5 @@ returns-in_err-write_all-clause-some g c =
     let fed = c.fill-fed.ensures in
     record {
       bytes = take (c.loop-at.at + c.fill-fed.result.used) c.args.piece.now;
-      advances = (serving_more password_at c.loop-at.invariant.serving fed.used_in_bounds fed.n_bound fed.follows).advances;
+      advances = (serving_more password_at c.loop-at.invariant.serving fed.used_in_bounds fed.follows).advances;
     }

@@ -9,9 +9,9 @@ abbrev pub invariant-loop-at : goal.invariant-loop-at
 invariant-loop-at g l =
     record {
       serving :
-          Serving password_at l.initial.pending.line l.initial.pending.n (stage_of l.initial.table) l.piece l.pending.line l.pending.n (stage_of l.table) l.at;
+          Serving password_at l.initial.pending (stage_of l.initial.table) l.piece l.pending (stage_of l.table) l.at;
       writes :
-          Writes password_at l.initial.pending.line l.initial.pending.n (take l.at l.piece) (stage_of l.initial.table) (g.W.Write.contents l.initial.to)
+          Writes password_at l.initial.pending (take l.at l.piece) (stage_of l.initial.table) (g.W.Write.contents l.initial.to)
           (g.W.Write.contents l.to);
     }
 

@@ -1,4 +1,3 @@
-use Rattle.std.proofs.Common.{arith}
 use Rattle.window.specs.PasswordAt.{password_at}
 use Rattle.script.specs.Script.{stage_of}
 use Rattle.desk_lines.specs.AdvanceLaws.{leaves_none, leaves_more}
@@ -8,11 +7,10 @@ use Rattle.desk_lines.proofs.input.serve_pieces.Goals as goal
 pub loop-init : goal.loop-init
 loop-init g c =
     record {
-      marked = omega arith;
-      leaves = rw c.requires (leaves_none password_at c.args.pending.now.line (stage_of c.args.table.now));
+      leaves = rw c.requires (leaves_none password_at (stage_of c.args.table.now));
       passes =
           rw c.requires
-          (passes_none password_at (g.R.Read.remaining c.args.input.now) (g.W.Write.contents c.args.to.now) c.args.pending.now.line (stage_of c.args.table.now));
+          (passes_none password_at (g.R.Read.remaining c.args.input.now) (g.W.Write.contents c.args.to.now) (stage_of c.args.table.now));
     }
 
 pub returns-in_err-read-clause-leaves : goal.returns-in_err-read-clause-leaves
@@ -30,7 +28,6 @@ pub loop-preserved : goal.loop-preserved
 loop-preserved g c =
     let turn = c.in_ok-read.ensures in
     record {
-      marked = c.serve_next.ensures.n_bound;
       leaves = leaves_more password_at c.loop.invariant.leaves c.serve_next.ensures.some.advances;
       passes = passes_more password_at c.loop.invariant.passes turn.advances turn.writes turn.taken;
     }

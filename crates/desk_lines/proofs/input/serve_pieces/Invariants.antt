@@ -1,4 +1,3 @@
-use Rattle.std.proofs.Common.{◌≤◌}
 use Rattle.window.specs.PasswordAt.{password_at}
 use Rattle.script.specs.Script.{stage_of}
 use Rattle.desk_lines.specs.Input.{Leaves, Passes}
@@ -7,9 +6,8 @@ use Rattle.desk_lines.proofs.input.serve_pieces.Given as goal
 abbrev pub invariant-loop : goal.invariant-loop
 invariant-loop g l =
     record {
-      marked : l.pending.n ≤ 4097;
-      leaves : Leaves password_at (stage_of l.initial.table) l.pending.line l.pending.n (stage_of l.table);
+      leaves : Leaves password_at (stage_of l.initial.table) l.pending (stage_of l.table);
       passes :
           Passes password_at (g.R.Read.remaining l.initial.input) (g.R.Read.remaining l.input) (g.W.Write.contents l.initial.to) (g.W.Write.contents l.to)
-          (stage_of l.initial.table) l.pending.line l.pending.n (stage_of l.table);
+          (stage_of l.initial.table) l.pending (stage_of l.table);
     }

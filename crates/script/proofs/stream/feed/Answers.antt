@@ -6,10 +6,10 @@ use Rattle.script.proofs.stream.feed.Goals as goal
 
 pub returns-then-found-piece-clause-follows : goal.returns-then-found-piece-clause-follows
 returns-then-found-piece-clause-follows c =
-    piece_pending password_at c.args.pending.now.line c.args.pending.now.n c.args.piece.now c.find-found.ensures.value c.extend-pending.ensures.by_index
+    piece_pending password_at c.args.pending.now c.args.piece.now c.find-found.ensures.value c.extend.ensures
     (stage_of c.args.table.now) c.args.out.now c.args.at c.if-found-piece.true
 
 pub returns-clause-follows : goal.returns-clause-follows
 returns-clause-follows c =
-    piece_line password_at c.args.pending.now.line c.args.pending.now.n c.args.piece.now c.find-found.ensures.value c.extend-pending.ensures.by_index
-    (omega (arith, c.if-found-piece.false)) c.serve-end.ensures.by_index
+    rw c.clear.ensures (piece_line password_at c.args.pending.now c.args.piece.now c.find-found.ensures.value c.extend.ensures
+    (omega (arith, c.if-found-piece.false)) c.serve_pending-end.ensures.serves)

@@ -6,7 +6,7 @@ use Rattle.script.proofs.stream.fill.Given as goal
 
 abbrev pub invariant-loop-at : goal.invariant-loop-at
 invariant-loop-at l =
-    Filling password_at l.initial.pending.line l.initial.pending.n (stage_of l.initial.table) l.piece l.initial.out l.pending.line l.pending.n (stage_of l.table)
+    Filling password_at l.initial.pending (stage_of l.initial.table) l.piece l.initial.out l.pending (stage_of l.table)
     l.out l.at l.end
 
 abbrev pub decreases-loop-at : goal.decreases-loop-at
