@@ -13,7 +13,7 @@ use Rattle.token.specs.Codes.{signed_of, values_of}
 use Rattle.desk.specs.Requests.{DeskCall, login_call, challenge_call, lock_call, sync_call, query_call}
 use Rattle.desk.specs.Reads.{Reads}
 use Rattle.message.specs.Message.{items_at, items_end, all_plain, lengths_add_up, attributes_plain, message_at, frame_fits, frame_of, mac_fits}
-use Rattle.message_calls.specs.Serving.{service_of, count_of, content_of, only_these, misfits, call_of, message_reads}
+use Rattle.message_calls.specs.Serving.{service_of, count_of, content_of, only_these, misfits, call_for, message_reads}
 use Rattle.call_lines.specs.Line.{name_of, not_made, particulars_of, load_line, challenge_line, sync_line, call_by, fields_read, message_in, message_line, reads_of, code_text, decimal_digits, values_text, answer_text}
 
 -- ---- calls
@@ -78,31 +78,31 @@ message_text digits = 0x6d ∷ 0x65 ∷ 0x73 ∷ 0x73 ∷ 0x61 ∷ 0x67 ∷ 0x65
 -- lock (0102) of serial 7
 pub lock-message : reads_of (message_text (head_digits ++ (0x30 ∷ 0x31 ∷ 0x30 ∷ 0x32 ∷ (serial_digits (0x30 ∷ 0x37 ∷ []))))) ≡ Reads.serves (lock_call 7 60)
 unfolding name_of call_by fields_read message_in message_line reads_of same_bytes longer fields_of digit_value digits_from decimal_of hex_of byte_then
-    message_reads frame_of frame_fits lengths_add_up attributes_plain message_at items_at items_end all_plain service_of count_of content_of only_these misfits call_of mac_fits be_at
+    message_reads frame_of frame_fits lengths_add_up attributes_plain message_at items_at items_end all_plain service_of count_of content_of only_these misfits call_for mac_fits be_at
 lock-message = refl
 
 -- query (010B) of serial 0xAB, with large letters
 pub query-message : reads_of (message_text (head_digits ++ (0x30 ∷ 0x31 ∷ 0x30 ∷ 0x42 ∷ (serial_digits (0x41 ∷ 0x42 ∷ []))))) ≡ Reads.serves (query_call 0xab 60)
 unfolding name_of call_by fields_read message_in message_line reads_of same_bytes longer fields_of digit_value digits_from decimal_of hex_of byte_then
-    message_reads frame_of frame_fits lengths_add_up attributes_plain message_at items_at items_end all_plain service_of count_of content_of only_these misfits call_of mac_fits be_at
+    message_reads frame_of frame_fits lengths_add_up attributes_plain message_at items_at items_end all_plain service_of count_of content_of only_these misfits call_for mac_fits be_at
 query-message = refl
 
 -- the lock with a digit less
 pub odd_message : reads_of (message_text (head_digits ++ (0x30 ∷ 0x31 ∷ 0x30 ∷ 0x32 ∷ (serial_digits (0x37 ∷ []))))) ≡ not_made
 unfolding name_of call_by fields_read message_in message_line reads_of same_bytes longer fields_of digit_value digits_from decimal_of hex_of byte_then
-    message_reads frame_of frame_fits lengths_add_up attributes_plain message_at items_at items_end all_plain service_of count_of content_of only_these misfits call_of mac_fits be_at
+    message_reads frame_of frame_fits lengths_add_up attributes_plain message_at items_at items_end all_plain service_of count_of content_of only_these misfits call_for mac_fits be_at
 odd_message = refl
 
 -- message,,60: a message of no bytes
 pub empty-message : reads_of (message_text []) ≡ Reads.refuses Refusal.BadMessage
 unfolding name_of call_by fields_read message_in message_line reads_of same_bytes longer fields_of digit_value digits_from decimal_of hex_of byte_then
-    message_reads frame_of frame_fits lengths_add_up attributes_plain message_at items_at items_end all_plain service_of count_of content_of only_these misfits call_of mac_fits be_at
+    message_reads frame_of frame_fits lengths_add_up attributes_plain message_at items_at items_end all_plain service_of count_of content_of only_these misfits call_for mac_fits be_at
 empty-message = refl
 
 -- message,60 and message,,60, and message,,06: a field missing, one more, a leading zero
 pub message-fields : map reads_of ((0x6d ∷ 0x65 ∷ 0x73 ∷ 0x73 ∷ 0x61 ∷ 0x67 ∷ 0x65 ∷ 0x2c ∷ 0x36 ∷ 0x30 ∷ []) ∷ (0x6d ∷ 0x65 ∷ 0x73 ∷ 0x73 ∷ 0x61 ∷ 0x67 ∷ 0x65 ∷ 0x2c ∷ 0x2c ∷ 0x36 ∷ 0x30 ∷ 0x2c ∷ []) ∷ (0x6d ∷ 0x65 ∷ 0x73 ∷ 0x73 ∷ 0x61 ∷ 0x67 ∷ 0x65 ∷ 0x2c ∷ 0x2c ∷ 0x30 ∷ 0x36 ∷ []) ∷ []) ≡ not_made ∷ not_made ∷ not_made ∷ []
 unfolding name_of call_by fields_read message_in message_line reads_of same_bytes longer fields_of digit_value digits_from decimal_of hex_of byte_then
-    message_reads frame_of frame_fits lengths_add_up attributes_plain message_at items_at items_end all_plain service_of count_of content_of only_these misfits call_of mac_fits be_at
+    message_reads frame_of frame_fits lengths_add_up attributes_plain message_at items_at items_end all_plain service_of count_of content_of only_these misfits call_for mac_fits be_at
 message-fields = refl
 
 -- ---- lines that are not so made

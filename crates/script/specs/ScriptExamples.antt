@@ -10,7 +10,7 @@ use Rattle.desk.specs.Requests.{table_ok, request_ok}
 use Rattle.desk.specs.Desk.{served_at, desk_after}
 use Rattle.desk.specs.Reads.{read_after}
 use Rattle.message.specs.Message.{items_at, items_end, all_plain, lengths_add_up, attributes_plain, message_at, frame_fits, frame_of, mac_fits}
-use Rattle.message_calls.specs.Serving.{service_of, count_of, content_of, only_these, misfits, call_of, message_reads}
+use Rattle.message_calls.specs.Serving.{service_of, count_of, content_of, only_these, misfits, call_for, message_reads}
 use Rattle.call_lines.specs.LineExamples.{head_digits, serial_digits, message_text}
 use Rattle.call_lines.specs.Line.{name_of, fields_read, message_in, message_line, reads_of, code_text, values_text, answer_text, line_after}
 use Rattle.script.specs.Script.{hex_text, rows_text, rows_of, later_line, served, served_all, output_of}
@@ -50,6 +50,6 @@ pub messages_printed : (passwords : PasswordRule)
     → output_of passwords (rows_line (0x31 ∷ 0x0a ∷ (message_text (head_digits ++ (0x30 ∷ 0x31 ∷ 0x30 ∷ 0x62 ∷ (serial_digits (0x30 ∷ 0x37 ∷ [])))) ++ (0x0a ∷ (message_text [] ++ (0x0a ∷ message_text (0x30 ∷ [])))))))
     ≡ 0x38 ∷ 0x34 ∷ 0x30 ∷ 0x32 ∷ 0x0a ∷ 0x39 ∷ 0x30 ∷ 0x30 ∷ 0x31 ∷ 0x0a ∷ 0x39 ∷ 0x30 ∷ 0x30 ∷ 0x35 ∷ 0x0a ∷ []
 unfolding output_of lines_of longer served_all served rows_of same_bytes digit_value digits_from decimal_of later_line line_after read_after reads_of name_of fields_read fields_of answer_text code_text values_text
-    message_in message_line hex_of byte_then message_reads frame_of frame_fits lengths_add_up attributes_plain message_at items_at items_end all_plain service_of count_of content_of only_these misfits call_of mac_fits be_at
+    message_in message_line hex_of byte_then message_reads frame_of frame_fits lengths_add_up attributes_plain message_at items_at items_end all_plain service_of count_of content_of only_these misfits call_for mac_fits be_at
     desk_after table_ok request_ok served_at located find_row first_row has_serial
 messages_printed passwords = refl
