@@ -30,6 +30,7 @@ fn put_decimal(text: Printed, x: u64) -> Printed
     let mut digits = [0u8; 20];
     let mut start = 19;
     let mut rest = x;
+    // A `while`, since it ends at the first digit: to find all twenty would cost their divisions.
     while 10 <= rest {
         digits[start] = (rest % 10) as u8 + b'0';
         rest /= 10;

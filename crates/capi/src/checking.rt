@@ -5,16 +5,11 @@ ghost use Rattle.capi.specs.Checked.{track_of, size_of, presented_of, check_numb
 
 use otp::typed::password_of;
 use row::track_ok;
+use token::{Refusal, number_of};
 use window::{Asked, CLOCKS, Offset, Outcome, Scheme, Seconds, Size, Step, Track, check, in_range};
 use words::codes::{BAD_ARGUMENT, DONE};
 
-const NEXT_WANTED: u16 = 0x8001;
-
-const WRONG: u16 = 0x8002;
-
-const USED: u16 = 0x8004;
-
-// The size that a number from 1 to 3 stands for.
+// The size that a number from 1 to 3 stands for: C has numbers.
 fn size_of(number: u8) -> Size
     ensures { result ≡ size_of number }
 {
@@ -64,10 +59,9 @@ fn put_outcome(outcome: Outcome, step: &mut [u64]) -> u16
             step[0] = s.0;
             DONE
         }
-        Outcome::Several => NEXT_WANTED,
-        Outcome::Again => USED,
-        Outcome::Used => USED,
-        Outcome::Wrong => WRONG,
+        Outcome::Several => number_of(Err(Refusal::NextAtLogin)),
+        Outcome::Again | Outcome::Used => number_of(Err(Refusal::UsedAtLogin)),
+        Outcome::Wrong => number_of(Err(Refusal::WrongAtLogin)),
     }
 }
 

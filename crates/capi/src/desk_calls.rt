@@ -1,4 +1,5 @@
-// The desk's calls. What a success carries goes to the front of values, as signed numbers in 64 bits.
+// The desk's calls. What a success carries goes to the front of values, as signed numbers in 64 bits. Each call is a C function of its own and tests
+// its own values: C calls no generic function.
 ghost use Rattle.std.specs.Prelude.{◌≡◌};
 ghost use Rattle.desk.specs.Requests.{DeskCall, login_call, challenge_call, activate_call, lock_call, unlock_call, suspend_call, resume_call, sync_call, void_call, query_call};
 ghost use Rattle.capi.specs.Stored.{left};

@@ -76,6 +76,7 @@ pub fn resume(table: &mut [u8], serial: u64, clock: Seconds, password: &[u8]) ->
     serve(table, serial, clock, Request::Resume(p), b"")
 }
 
+// A number, as C has it: `sync` answers for each.
 fn size_of(choice: u8) -> Size
     ensures { result ≡ size_of choice }
 {

@@ -55,6 +55,7 @@ fn read_full<F: Read>(file: &mut F, table: &mut [u8]) -> io::Result<usize>
     ensures end { IfOk result (λ len. len < length table.new → IsAtEnd (F.remaining file.new)) }
 {
     let mut len = 0;
+    // A `while`, since each turn reads as much as the file gives.
     while len < table.len() {
         let got = read_behind(file, table, len)?;
         if got == 0 {

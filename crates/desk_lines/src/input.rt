@@ -26,6 +26,7 @@ fn serve_piece<W: Write>(
     ensures writes { OnOk result (Writes password_at pending.old piece.now (stage_of table.old) (W.contents to.old) (W.contents to.new)) }
 {
     let mut at = 0;
+    // A `while`, since each turn serves as much as the output has room for.
     while at < piece.len() {
         let fed = fill(pending, table, &piece[at..], out);
         at += fed.used;

@@ -11,7 +11,8 @@ use words::bytes::copy;
 
 pub const LINE_FEED: u8 = 0x0a;
 
-// Puts text at at, and answers where it ends.
+// Puts text at at, and answers where it ends. `put_bytes` of otp also says what stands behind, which no line is read of. The output and the place in it
+// stay two parameters: what was printed so far is a part of a buffer whose length is no part of any contract.
 pub fn put(out: &mut [u8], at: usize, text: &[u8]) -> usize
     requires { at + length text.now ≤ length out.old }
     ensures { Put out.old at text.now out.new result }

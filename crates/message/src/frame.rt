@@ -59,7 +59,7 @@ pub(crate) fn item_end(message: &[u8], at: usize) -> usize
     at + ITEM_HEAD + message[at + 3] as usize
 }
 
-// Whether so many items from a place on end where the message ends, each with attribute 00.
+// Whether so many items from a place on end where the message ends, each with attribute 00. By places, as the definition goes.
 fn items_fill(message: &[u8], count: usize, start: usize) -> bool
     requires message_len_bound { length message.now ≤ longest }
     requires start_le_longest { start ≤ longest }

@@ -22,7 +22,7 @@ use cut::put_decimals;
 use once::truncated_once;
 use words::codes::BadArgument;
 
-// The algorithms (document 01, Part 4).
+// The algorithms (document 01, Part 4). Numbers, since `password` and `arguments_ok` answer for each.
 pub const SM3: u8 = 3;
 
 pub const SM4: u8 = 4;

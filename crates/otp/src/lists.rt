@@ -12,7 +12,7 @@ use crate::steps::hashed_cuts;
 use sm4::round_keys;
 use words::bytes::copy;
 
-// How a token's steps are cut: by which algorithm, and whether a step is a time T or a count C.
+// How a token's steps are cut: by which algorithm, a number since `step_cut` answers for each, and whether a step is a time T or a count C.
 #[derive(Clone, Copy)]
 pub struct Maker {
     pub algorithm: u8,

@@ -16,6 +16,7 @@ pub(crate) fn feed(line: &mut Pending<LONGEST>, piece: &[u8], out: &mut [u8]) ->
     let mut written = 0;
     let mut at = 0;
     let mut end = find(piece, at, piece.len(), LINE_FEED);
+    // A `while`, since it goes from line feed to line feed.
     while end < piece.len() {
         written = put_line(out, written, line, &piece[at..end]);
         at = end + 1;

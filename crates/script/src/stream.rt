@@ -51,6 +51,7 @@ pub fn fill(pending: &mut Pending, table: &mut Table, piece: &[u8], out: &mut [u
 {
     let mut at = 0;
     let mut end = 0;
+    // A `while`, since each turn reads as much as a line has.
     while (at < piece.len()) & (end <= FULL) {
         let fed = feed(pending, table, &piece[at..], out, end);
         at += fed.used;

@@ -1,9 +1,9 @@
 // The round function F and its parts (GB/T 32907, clause 6), over a state of four words.
-ghost use Rattle.std.specs.Prelude.{◌≡◌, ℕ, ◌+◌, ◌*◌, ◌≤◌, length, drop};
+ghost use Rattle.std.specs.Prelude.{◌≡◌, ℕ, ◌+◌, ◌*◌, ◌≤◌, ◌<◌, length, drop, slice_set};
 ghost use Rattle.sm4.specs.Sbox.{substitute};
-ghost use Rattle.sm4.specs.Sm4.{tau, linear, linear_key, round, step, steps, words_of};
+ghost use Rattle.sm4.specs.Sm4.{tau, linear, linear_key, round, step, steps, ck, words_of};
 
-use crate::parameters::SBOX;
+use crate::parameters::{CK, SBOX};
 use words::bytes::word_at;
 use words::word::rotate_left;
 
@@ -36,7 +36,8 @@ fn substitute(i: u8) -> u8
     SBOX[i as usize]
 }
 
-// The S-box on each byte of a word (6.2 a)). The sum is grouped so that two halves of it can be made at the same time.
+// The S-box on each byte of a word (6.2 a)). The sum is grouped so that two halves of it can be made at the same time:
+// by `from_be_bytes` a block took an eighth longer.
 fn tau(x: u32) -> u32
     ensures { result ≡ tau x }
 {
@@ -113,4 +114,16 @@ pub(crate) fn rounds(keys: &[u32], block: Quad) -> Quad
         q = four_rounds(keys, q, 4 * i);
     }
     q
+}
+
+// Step i of the key schedule (7.3 a)). The last word, which is round key i, is stored.
+pub fn next_key(q: Quad, i: usize, keys: &mut [u32]) -> Quad
+    requires i_bound { i < 32 }
+    requires keys_len { length keys.old ≡ 32 }
+    ensures value { result ≡ step linear_key (ck i) q }
+    ensures keys_after { keys.new ≡ slice_set keys.old i result.d }
+{
+    let next = q.step::<Expansion>(CK[i]);
+    keys[i] = next.d;
+    next
 }

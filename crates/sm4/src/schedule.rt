@@ -1,9 +1,8 @@
 // The key schedule (GB/T 32907, 7.3).
-ghost use Rattle.std.specs.Prelude.{◌≡◌, ◌<◌, length, slice_set};
-ghost use Rattle.sm4.specs.Sm4.{linear_key, step, ck, masked, keys_answer};
+ghost use Rattle.std.specs.Prelude.{◌≡◌};
+ghost use Rattle.sm4.specs.Sm4.{masked, keys_answer};
 
-use crate::parameters::CK;
-use crate::round::{Expansion, Quad, words_of};
+use crate::round::{Quad, next_key, words_of};
 use words::codes::BadArgument;
 
 // K_0 .. K_3: the words of a key with the system parameters FK (b)).
@@ -16,18 +15,6 @@ pub fn masked(q: Quad) -> Quad
         c: q.c ^ 0x677d9197,
         d: q.d ^ 0xb27022dc,
     }
-}
-
-// Step i of the schedule (a)). The last word, which is round key i, is stored.
-pub fn next_key(q: Quad, i: usize, keys: &mut [u32]) -> Quad
-    requires i_bound { i < 32 }
-    requires keys_len { length keys.old ≡ 32 }
-    ensures value { result ≡ step linear_key (ck i) q }
-    ensures keys_after { keys.new ≡ slice_set keys.old i result.d }
-{
-    let next = q.step::<Expansion>(CK[i]);
-    keys[i] = next.d;
-    next
 }
 
 // The round keys of a key of 16 bytes.

@@ -3,8 +3,8 @@ ghost use Rattle.std.specs.Prelude.{◌≡◌, length};
 ghost use Rattle.sm4.specs.Sm4.{linear, steps, round_keys, sm4_answer};
 
 use crate::encryption::reversed;
-use crate::round::{Encryption, Quad, words_of};
-use crate::schedule::{masked, next_key};
+use crate::round::{Encryption, Quad, next_key, words_of};
+use crate::schedule::masked;
 use words::codes::BadArgument;
 
 // The state after the rounds, of a block's four words, four rounds at a time: one at a time took a fifth longer. The round keys are left in keys.

@@ -4,8 +4,8 @@ ghost use Rattle.sm4.specs.Sm4.{linear, steps, round_keys};
 
 use crate::rounds::step_each;
 use sm4::Quad;
-use sm4::round::words_of;
-use sm4::schedule::{masked, next_key};
+use sm4::round::{next_key, words_of};
+use sm4::schedule::masked;
 
 // The states after the 32 rounds, four at a time. The round keys are left in keys.
 pub fn first_each<const N: usize>(key: &[u8], blocks: [Quad; N], keys: &mut [u32]) -> [Quad; N]

@@ -17,7 +17,7 @@ fn padded(s: &[u8]) -> [u8; 64]
     digits
 }
 
-// The value of each digit.
+// The value of each digit. A `for`, since the contract was not proved of `digits.map(digit)`.
 fn values_of(digits: [u8; 64]) -> [u8; 64]
     ensures { result ≡ map digit_value digits }
 {

@@ -4,10 +4,12 @@ ghost use Rattle.token.specs.Codes.{refusal_number, number_of};
 
 use crate::answers::{Answer, Refusal};
 
-fn refusal_number(refusal: Refusal) -> u16
-    ensures { result ≡ refusal_number refusal }
-{
-    refusal as u16
+impl From<Refusal> for u16 {
+    ghost from_gives = { λ refusal number. number ≡ refusal_number refusal };
+
+    fn from(refusal: Refusal) -> u16 {
+        refusal as u16
+    }
 }
 
 // The code that document 01 gives to an answer.
@@ -16,6 +18,6 @@ pub fn number_of(answer: Answer) -> u16
 {
     match answer {
         Ok(success) => success.number,
-        Err(refusal) => refusal_number(refusal),
+        Err(refusal) => u16::from(refusal),
     }
 }

@@ -1,4 +1,4 @@
-// The codes of document 01 that Parts 1 and 2 give.
+// The codes of document 01 that Parts 1 and 2 give, as C gets them.
 
 // Nothing was refused; document 01 has no number for it.
 pub const DONE: u16 = 0;
