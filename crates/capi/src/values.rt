@@ -10,7 +10,7 @@ pub(crate) const MOST_VALUES: usize = 3;
 
 const LAST_WORD: u64 = 0xffff_ffff_ffff_ffff;
 
-// The signed offset d, in two's complement.
+// The signed offset d, in two's complement: C gets numbers.
 fn signed(offset: Offset) -> u64
     ensures { result ≡ word (signed_of offset) }
 {

@@ -20,7 +20,7 @@ use std::os::unix::fs::OpenOptionsExt;
 use std::random::RandomSource;
 use std::{fs, io, str};
 
-// A path, and behind it the letters that make it the name of a new file.
+// A path, and behind it the letters that make it the name of a new file. That a path fits is one clause: a type for paths is no plainer.
 const NAME: usize = PATH_MAX + 7;
 
 // Reads the table in a file.

@@ -33,7 +33,7 @@ fn misfits(framed: &Framed) -> bool
     !fits(framed, service)
 }
 
-// The call of a service.
+// The call of a service. Each has arguments of its own, so that no table of functions could have them.
 fn serve_call(table: &mut [u8], framed: &Framed, service: Service, clock: Seconds) -> Answer
     requires service_value { service_of (message_at framed.now).service ≡ Some service }
     requires message_value { misfits (message_at framed.now) ≡ false }

@@ -22,6 +22,8 @@ pub struct Maker {
 // The words that a key is made ready to: SM4's round keys; SM3 needs none.
 pub const READY: usize = 32;
 
+// Each function asks for the bounds of the key, the challenge and the step that it uses; their sets differ, and a struct of all would be taken apart again.
+
 // By SM3: four side by side, three or two, or one; with a challenge one.
 fn put_hashed(maker: Maker, key: &[u8], challenge: &[u8], s: u64, out: &mut [u32]) -> usize
     requires algorithm_value { maker.algorithm ≡ algorithm_sm3 }

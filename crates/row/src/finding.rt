@@ -1,4 +1,4 @@
-// The search for a row (document 01, Part 4).
+// The search for a row (document 01, Part 4). The width of a table's rows is one parameter with one clause: a type for it is no plainer.
 ghost use Rattle.std.specs.Prelude.{◌≡◌, ◌+◌, ◌≤◌, length};
 ghost use Rattle.row.specs.declared.finding.Wanted.TheVariants.{Serial};
 ghost use Rattle.row.specs.Row.{row_bytes};

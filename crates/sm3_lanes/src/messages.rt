@@ -8,7 +8,7 @@ use std::num::wrapping_add_u32 as add;
 use words::bytes::word_at;
 use words::word::rotate_left;
 
-// W_j of message l from the words before it.
+// W_j of message l from the words before it. An index has its bound in the contract that uses it: a type for each index is no plainer.
 fn next_word(w: &[u32; 272], j: usize, l: usize) -> u32
     requires le_j { 16 ≤ j }
     requires j_bound { j < 68 }

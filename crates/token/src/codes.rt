@@ -12,7 +12,7 @@ impl From<Refusal> for u16 {
     }
 }
 
-// The code that document 01 gives to an answer.
+// The code that document 01 gives to an answer. A function, since an answer is the library's type, which takes no `From` of ours.
 pub fn number_of(answer: Answer) -> u16
     ensures { result ≡ number_of answer }
 {
