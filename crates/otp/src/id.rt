@@ -48,5 +48,5 @@ pub(crate) fn put_id(
     let after_time = put_factor(out, at, 8, time);
     let after_count = put_factor(out, after_time, 4, count);
     let end = put_bytes(out, after_count, challenge);
-    if end < at + 16 { at + 16 } else { end }
+    end.max(at + 16)
 }

@@ -61,7 +61,8 @@ pub fn fill(pending: &mut Pending, table: &mut Table, piece: &[u8], out: &mut [u
 }
 
 // Serves the line that the end of the input ends, if one has begun. Answers where what it prints ends.
-pub fn finish(pending: &Pending, table: &mut Table, out: &mut [u8; OUTPUT]) -> usize
+pub fn finish(pending: &Pending, table: &mut Table, out: &mut [u8]) -> usize
+    requires { most_text ≤ length out.old }
     ensures upper_bound { result ≤ most_text }
     ensures by_index { (p : List ℕ) → pending.now ≡ kept longest p → Serves password_at (last p) (stage_of table.old) (stage_of table.new) out.old 0 out.new result }
 {
