@@ -7,8 +7,7 @@ use Rattle.std.proofs.Math.Nat.{pow-suc}
 use native.Mathlib.Omega.{arith}
 use borrow.Author.Tests.{lt-ltb, le-ltb, le-leb, lt-leb}
 use Rattle.std.proofs.Math.ListN.{length, length-set}
-use Rattle.std.proofs.Math.Seq.{append_snoc, take-append_seam, drop-append-add}
-use Rattle.words.specs.ListsLaws.{drop_zeros}
+use Rattle.std.proofs.Math.Seq.{append_snoc}
 use Rattle.words.specs.BoolLaws.{by-test}
 use Rattle.window.specs.declared.Offset.{Offset}
 use Rattle.window.specs.Window.{farthest}

@@ -1,5 +1,5 @@
 // The call of a line, made on the table. A line not so made is answered as a bad argument is.
-ghost use Rattle.std.specs.Prelude.{◌≡◌, ◌≤◌, length};
+ghost use Rattle.std.specs.Prelude.{◌≡◌};
 ghost use Rattle.text.specs.Text.{fields_of};
 ghost use Rattle.window.specs.PasswordAt.{password_at};
 ghost use Rattle.desk.specs.Desk.{result_of};
@@ -19,7 +19,6 @@ use window::{Scheme, Seconds};
 
 // The particulars of a load, of which SERIAL and EXPIRY were read.
 fn particulars_of(line: &[u8], serial: u64, expiry: Seconds) -> Option<Particulars>
-    requires { length line.now ≤ 4096 }
     ensures { result ≡ particulars_of (fields_of line.now) serial expiry.0 }
 {
     Some(Particulars {
@@ -38,7 +37,6 @@ fn particulars_of(line: &[u8], serial: u64, expiry: Seconds) -> Option<Particula
 
 // A line of a load, of which SERIAL and EXPIRY were read.
 fn load_line(table: &mut [u8], line: &[u8], serial: u64, expiry: Seconds) -> Answer
-    requires { length line.now ≤ 4096 }
     ensures { result_of result table.new ≡ read_after password_at (load_line (fields_of line.now) serial expiry.0) table.old }
 {
     let particulars = particulars_of(line, serial, expiry).ok_or(Refusal::BadArgument)?;
@@ -48,7 +46,6 @@ fn load_line(table: &mut [u8], line: &[u8], serial: u64, expiry: Seconds) -> Ans
 
 // A line of a challenge login.
 fn challenge_line(table: &mut [u8], line: &[u8], serial: u64, clock: Seconds) -> Answer
-    requires { length line.now ≤ 4096 }
     ensures { result_of result table.new ≡ read_after password_at (challenge_line (fields_of line.now) serial clock.0) table.old }
 {
     let challenge = hex(field(line, 2)).ok_or(Refusal::BadArgument)?;
@@ -57,7 +54,6 @@ fn challenge_line(table: &mut [u8], line: &[u8], serial: u64, clock: Seconds) ->
 
 // A line of a sync.
 fn sync_line(table: &mut [u8], line: &[u8], serial: u64, clock: Seconds) -> Answer
-    requires { length line.now ≤ 4096 }
     ensures { result_of result table.new ≡ read_after password_at (sync_line (fields_of line.now) serial clock.0) table.old }
 {
     let choice = byte_at(line, 2).ok_or(Refusal::BadArgument)?;
@@ -66,7 +62,6 @@ fn sync_line(table: &mut [u8], line: &[u8], serial: u64, clock: Seconds) -> Answ
 
 // A line of the name's count of fields, of which SERIAL and the time at the end were read.
 fn named_line(table: &mut [u8], line: &[u8], name: Name, serial: u64, clock: Seconds) -> Answer
-    requires { length line.now ≤ 4096 }
     ensures { result_of result table.new ≡ read_after password_at (call_by name (fields_of line.now) serial clock.0) table.old }
 {
     match name {
@@ -86,7 +81,6 @@ fn named_line(table: &mut [u8], line: &[u8], name: Name, serial: u64, clock: Sec
 
 // Makes the call of a line.
 pub(crate) fn call_line(table: &mut [u8], line: &[u8]) -> Answer
-    requires { length line.now ≤ 4096 }
     ensures { result_of result table.new ≡ read_after password_at (call_line (fields_of line.now)) table.old }
 {
     let name = name_of(field(line, 0)).ok_or(Refusal::BadArgument)?;

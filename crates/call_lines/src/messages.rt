@@ -13,7 +13,7 @@ use text::hex_into;
 use token::{Answer, Refusal};
 use window::Seconds;
 
-// As many bytes as the digits of the longest line are.
+// Room for the bytes of as many digits as the longest line has. The functions below ask for a line of up to 4,096 bytes for it: the digits of a longer one might not fit.
 const ROOM: usize = 2048;
 
 // Serves the message of the digits.

@@ -57,7 +57,6 @@ impl Name {
     pub(crate) fn count(self) -> usize
         ensures value { result ≡ count_of self }
         ensures lower_bound { 3 ≤ result }
-        ensures upper_bound { result ≤ 10 }
     {
         match self {
             Name::Load => 10,

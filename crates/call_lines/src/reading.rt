@@ -1,5 +1,5 @@
 // Numbers that their fields can hold.
-ghost use Rattle.std.specs.Prelude.{◌≡◌, ◌≤◌, ◌^◌, length};
+ghost use Rattle.std.specs.Prelude.{◌≡◌, ◌^◌};
 ghost use Rattle.text.specs.Text.{fields_of};
 ghost use Rattle.call_lines.specs.Line.{field_of, number_below};
 
@@ -8,8 +8,6 @@ use text::decimal;
 
 // The number in the field i.
 pub(crate) fn number_at(line: &[u8], i: usize) -> Option<u64>
-    requires i_bound { i ≤ 10 }
-    requires line_len_bound { length line.now ≤ 4096 }
     ensures { result ≡ number_below (2 ^ 64) (field_of (fields_of line.now) i) }
 {
     decimal(field(line, i))
@@ -17,8 +15,6 @@ pub(crate) fn number_at(line: &[u8], i: usize) -> Option<u64>
 
 // The number in the field i, which holds a word.
 pub(crate) fn word_at(line: &[u8], i: usize) -> Option<u32>
-    requires i_bound { i ≤ 10 }
-    requires line_len_bound { length line.now ≤ 4096 }
     ensures { result ≡ number_below (2 ^ 32) (field_of (fields_of line.now) i) }
 {
     u32::try_from(number_at(line, i)?).ok()
@@ -26,8 +22,6 @@ pub(crate) fn word_at(line: &[u8], i: usize) -> Option<u32>
 
 // The number in the field i, which holds a byte.
 pub(crate) fn byte_at(line: &[u8], i: usize) -> Option<u8>
-    requires i_bound { i ≤ 10 }
-    requires line_len_bound { length line.now ≤ 4096 }
     ensures { result ≡ number_below (2 ^ 8) (field_of (fields_of line.now) i) }
 {
     u8::try_from(number_at(line, i)?).ok()

@@ -1,6 +1,5 @@
 -- What the private functions and the loops compute, on the way to the definitions of Text.
 use Rattle.std.specs.Prelude.{ℕ, zero, suc, ◌+◌, ◌*◌, ◌/◌, ◌%◌, Bool, true, cond, ◌&&◌, List, [], ◌∷◌, ◌==◌, nat_lt}
-use Rattle.text.specs.Text.{field_end}
 
 -- every value is that of a hexadecimal digit
 unfoldable pub all_hex : List ℕ → Bool
@@ -12,11 +11,6 @@ unfoldable pub pairs_of : List ℕ → List ℕ
 pairs_of [] = []
 pairs_of (h ∷ []) = []
 pairs_of (h ∷ l ∷ values) = (h % 16 * 16 + l % 16) ∷ pairs_of values
-
--- where the next field starts, n fields after the one at start
-unfoldable pub start_after : ℕ → List ℕ → ℕ → ℕ
-start_after zero line start = start
-start_after (suc n) line start = start_after n line (field_end line start + 1)
 
 -- the number of k bytes that each are b
 unfoldable pub each_byte : ℕ → ℕ → ℕ

@@ -1,7 +1,5 @@
 -- The text of a line (document 01, "Line program"): fields between commas, decimal numbers without leading zeros, bytes in hexadecimal.
 use Rattle.std.specs.Prelude.{ℕ, ◌+◌, ◌-◌, ◌*◌, ◌^◌, cond, ◌&&◌, List, [], ◌∷◌, ◌++◌, length, drop, Option, Some, None, ◌==◌, nat_le, nat_lt}
-use Rattle.words.specs.Search.{index_of}
-use Rattle.text.specs.declared.fields.Field.{Field}
 
 -- ---- digits
 
@@ -102,10 +100,3 @@ joined (f ∷ fs) = f ++ behind_commas fs
 unfoldable pub sum_lengths : List (List ℕ) → ℕ
 sum_lengths [] = 0
 sum_lengths (f ∷ fs) = length f + sum_lengths fs
-
--- where the field that starts at start ends: at the next comma, or at the line's end
-unfoldable pub field_end : List ℕ → ℕ → ℕ
-field_end line start = start + index_of comma (drop start line)
-
-abbrev pub field_at : List ℕ → ℕ → Field
-field_at line start = record { start = start; end = field_end line start }

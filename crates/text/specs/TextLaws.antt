@@ -1,14 +1,14 @@
 -- What a line program needs of decimal numbers, hexadecimal bytes and fields.
-use Rattle.std.specs.Prelude.{◌≡◌, ℕ, suc, ◌+◌, ◌-◌, ◌*◌, ◌/◌, ◌%◌, ◌^◌, ◌<◌, ◌≤◌, max, Bool, true, false, cond, ◌&&◌, List, [], ◌∷◌, ◌++◌, map, length, take, drop, ◌==◌, ◌≢◌, nat_eq, nat_le, nat_lt, Option, Some, None}
+use Rattle.std.specs.Prelude.{◌≡◌, ℕ, suc, ◌+◌, ◌-◌, ◌*◌, ◌/◌, ◌%◌, ◌^◌, ◌<◌, ◌≤◌, Bool, true, false, cond, ◌&&◌, List, [], ◌∷◌, ◌++◌, map, length, take, drop, ◌==◌, ◌≢◌, nat_eq, nat_le, nat_lt, Option, Some, None}
 use Rattle.std.proofs.Math.Path.{refl}
-use Rattle.std.proofs.Common.{sym, ap, ◌∙◌, mul_assoc, mul-le-mul_right, le-add_right, le_trans, zero-lt-suc, add-one, arith, lt-ltb, le-ltb, le-leb, leb-true, ltb-true, ltb-false, eqb-true, length-append, length-drop, drop-drop}
+use Rattle.std.proofs.Common.{sym, ap, ◌∙◌, mul_assoc, mul-le-mul_right, le-add_right, le_trans, zero-lt-suc, add-one, arith, lt-ltb, le-ltb, le-leb, leb-true, ltb-true, ltb-false, eqb-true, length-append}
 use Rattle.std.proofs.Math.Nat.{pow-succ', pow-le-pow_right}
 use Rattle.std.proofs.lemmas.Bool.{eqb-false}
 use Rattle.std.proofs.Math.Dec.{leb-suc-suc}
 use Rattle.std.proofs.Math.Seq.{take-append_seam}
 use Rattle.words.specs.BoolLaws.{by-test, and_left, and_right, impossible}
 use Rattle.words.specs.Search.{index_of, index_after}
-use Rattle.text.specs.Text.{digit_value, digits_from, decimal_of, bounded, number_in, byte_then, hex_of, decoded, decoded_of, HexLeft, hex_left, put_front, hex_into, comma, longer, fields_of, behind_commas, joined, sum_lengths, field_end}
+use Rattle.text.specs.Text.{digit_value, digits_from, decimal_of, bounded, number_in, byte_then, hex_of, decoded, decoded_of, HexLeft, hex_left, put_front, hex_into, comma, longer, fields_of, behind_commas, joined, sum_lengths}
 use Rattle.text.specs.Steps.{all_hex, pairs_of}
 
 none-some : {A B : Type 0} {a : A} → ◌≡◌ {A = Option A} None (Some a) → B
@@ -228,32 +228,3 @@ pub length_fields : (line : List ℕ) → length line ≡ sum_lengths (fields_of
 length_fields line =
     ap length (sym (fields-joined line))
     ∙ rw (fields-first line) (length-joined (take (index_of comma line) line) (cond (nat_lt (index_of comma line) (length line)) (fields_of (drop (index_of comma line + 1) line)) []))
-
-index_le : (s : List ℕ) → index_of comma s ≤ length s
-unfolding index_of index_after
-index_le [] = omega arith
-index_le (b ∷ s) = let h = index_le s in by-test (b == comma) (λ t. rw t (omega arith)) (λ f. rw f (omega arith))
-
--- a field ends in the line; one that starts past the line's end is empty
-pub end-le : (line : List ℕ) (start : ℕ) → field_end line start ≤ max start (length line)
-unfolding field_end
-end-le line start = let h = rw length-drop at (index_le (drop start line)) in omega arith
-
--- a walk from field to field: what is left of the line is the field at start and, past a comma, the next ones
-pub fields-from : (line : List ℕ) (start : ℕ) → start ≤ length line
-    → fields_of (drop start line)
-    ≡ take (field_end line start - start) (drop start line)
-    ∷ cond (nat_lt (field_end line start) (length line)) (fields_of (drop (field_end line start + 1) line)) []
-unfolding field_end
-fields-from line start l =
-    let n = index_of comma (drop start line) in
-    let e : start + n - start ≡ n = omega arith in
-    let m : start + (n + 1) ≡ start + n + 1 = omega arith in
-    rw e (fields-first (drop start line) ∙ rw (test n, drop-drop (n + 1) start line, m))
-  where
-    test : (n : ℕ) → nat_lt n (length (drop start line)) ≡ nat_lt (start + n) (length line)
-    test n =
-        let d = length-drop start line in
-        by-test (nat_lt n (length (drop start line)))
-        (λ t. t ∙ sym (lt-ltb (start + n) (length line) (omega (arith, ltb-true n (length (drop start line)) t))))
-        (λ f. f ∙ sym (le-ltb (start + n) (length line) (omega (arith, ltb-false n (length (drop start line)) f))))

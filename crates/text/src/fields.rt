@@ -1,28 +1,10 @@
 // The fields of a line: the parts between its commas.
 ghost use Rattle.std.specs.Prelude.{◌≡◌, [], ◌∷◌, IfNone, IfSome};
-ghost use Rattle.text.specs.Text.{fields_of, field_at};
+ghost use Rattle.text.specs.Text.{fields_of};
 
 use crate::scan::find;
 
 const COMMA: u8 = 0x2c;
-
-// A field: the bytes of the line from start up to end.
-#[derive(Clone, Copy)]
-pub struct Field {
-    pub start: usize,
-    pub end: usize,
-}
-
-// The field that starts at start: it ends at the next comma, or at the line's end.
-pub fn field_at(line: &[u8], start: usize) -> Field
-    ensures { result ≡ field_at line.now start }
-{
-    if line.len() < start {
-        return Field { start, end: start };
-    }
-    let end = find(line, start, line.len(), COMMA);
-    Field { start, end }
-}
 
 // The first field of the line, and what stands behind the comma that ends it. Inlined, since two slices are returned in memory.
 #[inline(always)]

@@ -10,7 +10,7 @@ mod scan;
 
 pub use bytes::Bytes;
 pub use digit::hex_digit;
-pub use fields::{Field, field_at, first_field};
+pub use fields::first_field;
 pub use hexadecimal::{hex, hex_into};
 pub use numbers::decimal;
 pub use scan::find;
