@@ -60,7 +60,8 @@ fn sync_line(table: &mut [u8], line: &[u8], serial: u64, clock: Seconds) -> Answ
     sync(table, serial, clock, choice, field(line, 3), field(line, 4))
 }
 
-// A line of the name's count of fields, of which SERIAL and the time at the end were read.
+// A line of the name's count of fields, of which SERIAL and the time at the end were read. Each call has arguments of its own, so that no table of
+// functions could have them.
 fn named_line(table: &mut [u8], line: &[u8], name: Name, serial: u64, clock: Seconds) -> Answer
     ensures { result_of result table.new ≡ read_after password_at (call_by name (fields_of line.now) serial clock.0) table.old }
 {

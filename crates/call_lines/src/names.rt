@@ -74,7 +74,7 @@ impl Name {
     }
 }
 
-// The name that the first field of a line is.
+// The name that the first field of a line is. Of a `match` on the bytes three names already left goals open.
 pub(crate) fn name_of(field: &[u8]) -> Option<Name>
     ensures { result ≡ name_of field.now }
 {

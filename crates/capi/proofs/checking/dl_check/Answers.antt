@@ -12,18 +12,6 @@ returns-in_default c =
 pub check-swept-requires : goal.check-swept-requires
 check-swept-requires c = record { sound = (check_asked _ _ _ _ _ c.args.step.now c.args.computed.now c.args.fresh.now c.numbers_ok-ok.ensures c.if-not-ok-room.false-raw).0; challenge_value = (check_asked _ _ _ _ _ c.args.step.now c.args.computed.now c.args.fresh.now c.numbers_ok-ok.ensures c.if-not-ok-room.false-raw).1 }
 
-pub bounds-computed-0 : goal.bounds-computed-0
-bounds-computed-0 c =
-    computed-room _ _ _ _ _ c.args.step.now c.args.computed.now c.args.fresh.now c.numbers_ok-ok.ensures c.if-not-ok-room.false-raw
-
-pub bounds-fresh-0 : goal.bounds-fresh-0
-bounds-fresh-0 c =
-    fresh-room _ _ _ _ _ c.args.step.now c.args.computed.now c.args.fresh.now c.numbers_ok-ok.ensures c.if-not-ok-room.false-raw
-
-pub put_outcome-requires : goal.put_outcome-requires
-put_outcome-requires c =
-    step_room _ _ _ _ _ c.args.step.now c.args.computed.now c.args.fresh.now c.numbers_ok-ok.ensures c.if-not-ok-room.false-raw
-
 pub returns : goal.returns
 returns c =
     let computed = computed-room _ _ _ _ _ c.args.step.now c.args.computed.now c.args.fresh.now c.numbers_ok-ok.ensures c.if-not-ok-room.false-raw in

@@ -2,12 +2,6 @@ use Rattle.std.proofs.Common.{arith, length-set}
 use Rattle.capi.specs.DeskLeftLaws.{plain-written, checked-written, queried-written}
 use Rattle.capi.proofs.values.put_content.Goals as goal
 
-pub bounds-values-1 : goal.bounds-values-1
-bounds-values-1 c = simp length-set (omega arith)
-
-pub bounds-values-1-in-Queried : goal.bounds-values-1-in-Queried
-bounds-values-1-in-Queried c = simp length-set (omega arith)
-
 pub returns-in-Plain : goal.returns-in-Plain
 returns-in-Plain c = rw c.in-Plain.is (plain-written c.args.values.now)
 

@@ -4,8 +4,5 @@ use Rattle.message.proofs.reading.framed_read.Goals as goal
 pub returns-in_err-framed : goal.returns-in_err-framed
 returns-in_err-framed c = search rules
 
-pub returns-then-not-mac_fits : goal.returns-then-not-mac_fits
-returns-then-not-mac_fits c = search rules
-
 pub returns : goal.returns
 returns c = search rules

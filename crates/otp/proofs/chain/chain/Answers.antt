@@ -2,10 +2,6 @@ use Rattle.std.proofs.Common.{◌≡◌, arith}
 use Rattle.otp.specs.ChainLaws.{encrypted_ok, chain_more, block_part, block_length}
 use Rattle.otp.proofs.chain.chain.Goals as goal
 
-pub words_of-requires : goal.words_of-requires
-words_of-requires c =
-    rw (block_part c.args.s.now c.loop-i.i) (block_length c.args.s.now c.loop-i.i (omega arith))
-
 pub unwrap-out-requires : goal.unwrap-out-requires
 unwrap-out-requires c = encrypted_ok c.args.keys.now _ c.requires.keys_len c.encrypt_words.ensures
 

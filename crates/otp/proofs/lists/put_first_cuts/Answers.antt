@@ -5,8 +5,5 @@ use Rattle.otp.proofs.lists.put_first_cuts.Goals as goal
 pub returns-then-out-eq0 : goal.returns-then-out-eq0
 returns-then-out-eq0 c = record { out_after = put_all _ _ (omega arith) (put-none _ _ _); ready = λ h n. absurd (omega arith) }
 
-pub put_cuts-requires : goal.put_cuts-requires
-put_cuts-requires c = record { key_len_bound = c.requires.key_len_bound; ready = c.put_first-made.ensures.ready; challenge_len_bound = c.requires.challenge_len_bound; out_bound = put-room _ _ c.put_first-made.ensures.put c.requires.out_bound }
-
 pub returns : goal.returns
 returns c = record { out_after = put_rest _ _ c.put_first-made.ensures.put c.put_cuts.ensures; ready = λ h. c.put_first-made.ensures.ready }

@@ -3,9 +3,6 @@ use Rattle.otp.specs.ChainLaws.{length-prepared}
 use Rattle.otp.specs.CutListsLaws.{cut-chained, put_one, keyed-put}
 use Rattle.otp.proofs.lists.put_some.Goals as goal
 
-pub ciphered-requires : goal.ciphered-requires
-ciphered-requires c = record { keys_value = c.requires.ready c.if-maker-eq-SM3.false; challenge_len_bound = c.requires.challenge_len_bound }
-
 pub returns-then-challenge-gt0 : goal.returns-then-challenge-gt0
 returns-then-challenge-gt0 c = let by = c.if-maker-eq-SM3.false in
     record { result_nonzero = search rules; put = put_one _ _ _ c.requires.out_nonzero (cut-chained _ _ _ _ _ c.time_at.ensures c.count_at.ensures by c.ciphered.ensures) }

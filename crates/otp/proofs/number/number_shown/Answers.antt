@@ -2,12 +2,6 @@ use Rattle.std.proofs.Common.{sym, ◌∙◌, arith}
 use Rattle.otp.specs.NumbersLaws.{number_fits, number_grows, number_more, number-end}
 use Rattle.otp.proofs.number.number_shown.Goals as goal
 
-pub overflow_mul-x : goal.overflow_mul-x
-overflow_mul-x c = let p = number_fits c.loop-b.b-index c.loop-b.x (omega arith) c.loop-b.invariant.0 in omega arith
-
-pub overflow_add-x : goal.overflow_add-x
-overflow_add-x c = let p = number_fits c.loop-b.b-index c.loop-b.x (omega arith) c.loop-b.invariant.0 in omega (arith, c.type_inv.digits c.loop-b.b-index)
-
 pub loop-b-preserved : goal.loop-b-preserved
 loop-b-preserved c = (
   number_grows c.loop-b.b-index c.loop-b.x c.loop-b.invariant.0 (omega (arith, c.type_inv.digits c.loop-b.b-index)),

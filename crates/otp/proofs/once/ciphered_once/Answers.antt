@@ -4,10 +4,6 @@ use Rattle.otp.specs.IdLaws.{id-length}
 use Rattle.otp.specs.ChainLaws.{length-prepared, first_ok, first_output, ciphered_of}
 use Rattle.otp.proofs.once.ciphered_once.Goals as goal
 
-pub overflow_add-end : goal.overflow_add-end
-overflow_add-end c = let l = id-length c.args.time c.args.count c.args.challenge.now in
-    omega (arith, c.put_id-end.ensures.value)
-
 pub unwrap-first-requires : goal.unwrap-first-requires
 unwrap-first-requires c = first_ok c.args.key.now c.put_id-end.new.out c.requires.in_bounds (omega (arith, c.put_id-end.auto.out)) c.first_block.ensures
 

@@ -4,10 +4,6 @@ use Rattle.otp.specs.IdLaws.{id-length}
 use Rattle.otp.specs.ChainLaws.{length-prepared, encrypted_ok, chain_first, ciphered_of}
 use Rattle.otp.proofs.prepared.ciphered.Goals as goal
 
-pub overflow_add-end : goal.overflow_add-end
-overflow_add-end c = let l = id-length c.args.time c.args.count c.args.challenge.now in
-    omega (arith, c.put_id-end.ensures.value)
-
 pub unwrap-first-requires : goal.unwrap-first-requires
 unwrap-first-requires c = encrypted_ok c.args.keys.now _ (ap length c.requires.keys_value ∙ length-prepared c.args.key.now) c.encrypt_words.ensures
 

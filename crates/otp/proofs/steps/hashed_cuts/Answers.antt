@@ -5,9 +5,6 @@ use Rattle.otp.proofs.steps.hashed_cuts.Goals as goal
 pub pad-requires : goal.pad-requires
 pad-requires c = record { len_bound = omega (arith, c.put_bytes-at.ensures.value); m_value = key-behind c.args.key.now c.requires.key_len_bound c.put_bytes-at.ensures.value c.put_bytes-at.ensures.out_after }
 
-pub put_steps-requires : goal.put_steps-requires
-put_steps-requires c = omega (arith, c.put_bytes-at.ensures.value, c.requires.key_len_bound)
-
 pub returns : goal.returns
 returns c =
     let key = c.args.key.now in

@@ -8,11 +8,5 @@ returns-then-not-n c = typed-miscounted _ c.if-not-n.true-raw
 pub returns-then-not-within : goal.returns-then-not-within
 returns-then-not-within c = typed-other _ c.within.ensures c.if-not-within.true-raw
 
-pub overflow_cast-result : goal.overflow_cast-result
-overflow_cast-result c = omega (arith, typed-counted c.args.bytes.now c.if-not-n.false-raw)
-
-pub number_shown-requires : goal.number_shown-requires
-number_shown-requires c = typed-counted c.args.bytes.now c.if-not-n.false-raw
-
 pub returns : goal.returns
 returns c = typed-digits _ c.within.ensures c.if-not-n.false-raw c.if-not-within.false-raw c.number_shown.ensures

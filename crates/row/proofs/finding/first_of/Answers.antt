@@ -4,9 +4,6 @@ use Rattle.std.proofs.Common.{sym, rules}
 use Rattle.row.specs.FindLaws.{none_left, first_passes, first_fails}
 use Rattle.row.proofs.finding.first_of.Goals as goal
 
-pub loop-at-init : goal.loop-at-init
-loop-at-init c = (search rules, refl)
-
 pub loop-at-preserved : goal.loop-at-preserved
 loop-at-preserved c = (search rules, first_fails _ _ _ c.requires.width_ok.long _ _ refl c.loop-at-test.true (sym c.passes.ensures ∙ c.if-passes.false) ∙ c.loop-at.invariant.1)
 

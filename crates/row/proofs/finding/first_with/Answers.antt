@@ -4,9 +4,6 @@ use Rattle.std.proofs.Common.{sym, arith, rules}
 use Rattle.row.specs.FindLaws.{enough-left, four-passed}
 use Rattle.row.proofs.finding.first_with.Goals as goal
 
-pub loop-at-init : goal.loop-at-init
-loop-at-init c = (search rules, refl)
-
 pub loop-at-smaller : goal.loop-at-smaller
 loop-at-smaller c = let h = enough-left _ _ _ _ (sym c.four_lack.ensures ∙ c.loop-at-test.true) in omega arith
 

@@ -4,8 +4,5 @@ use Rattle.text.proofs.hexadecimal.hex_into.Goals as goal
 pub returns-then-not-s-n : goal.returns-then-not-s-n
 returns-then-not-s-n c = into_wrong _ _ c.all_digits.ensures c.if-not-s-n.true-raw
 
-pub put_pairs-requires : goal.put_pairs-requires
-put_pairs-requires c = into_room c.args.s.now c.args.out.now c.all_digits.ensures c.if-not-s-n.false-raw
-
 pub returns : goal.returns
 returns c = into_done _ _ c.all_digits.ensures c.if-not-s-n.false-raw c.put_pairs.ensures

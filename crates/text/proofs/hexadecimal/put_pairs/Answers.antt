@@ -2,9 +2,6 @@ use Rattle.std.proofs.Common.{rules}
 use Rattle.text.specs.HexLaws.{putting_none, putting_more, putting_end}
 use Rattle.text.proofs.hexadecimal.put_pairs.Goals as goal
 
-pub loop-i-init : goal.loop-i-init
-loop-i-init c = putting_none _ _ c.requires
-
 pub loop-i-preserved : goal.loop-i-preserved
 loop-i-preserved c = putting_more _ _ c.requires _ _ c.loop-i.invariant (search rules) c.digit.ensures c.digit-in-loop-i.ensures
 

@@ -2,9 +2,6 @@ use Rattle.std.proofs.Common.{arith}
 use Rattle.text.specs.DecimalLaws.{read_none, all_room, read-all_more, all_right, some-wrong}
 use Rattle.text.proofs.numbers.few_digits.Goals as goal
 
-pub loop-b-init : goal.loop-b-init
-loop-b-init c = read_none c.args.s.now
-
 pub overflow_mul-value : goal.overflow_mul-value
 overflow_mul-value c =
     omega (arith, all_room c.args.s.now c.requires c.loop-b.invariant c.loop-b-test.true)

@@ -3,15 +3,6 @@ use Rattle.std.specs.Int.Count.{trailing_le}
 use Rattle.text.specs.ScanLaws.{some-marked, none-marked}
 use Rattle.text.proofs.scan.find.Goals as goal
 
-pub loop-at-init : goal.loop-at-init
-loop-at-init c = (search rules, refl)
-
-pub overflow_cast-result : goal.overflow_cast-result
-overflow_cast-result c = omega (arith, trailing_le 64 c.marks-found.result)
-
-pub overflow_add-result : goal.overflow_add-result
-overflow_add-result c = omega (arith, trailing_le 64 c.marks-found.result)
-
 pub returns-then-found-ne0 : goal.returns-then-found-ne0
 returns-then-found-ne0 c = record { value = sym (c.loop-at.invariant.1 ∙ ap (c.loop-at.at +◌) (some-marked c.args.s.now c.loop-at.at c.args.to c.args.b c.marks-found.result c.loop-at-test.true c.requires.to_in_bounds c.marks-found.ensures c.if-found-ne0.true (omega arith))); upper_bound = omega (arith, trailing_le 64 c.marks-found.result) }
 

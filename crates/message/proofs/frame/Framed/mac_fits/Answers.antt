@@ -4,6 +4,3 @@ use Rattle.message.proofs.frame.Framed.mac_fits.Goals as goal
 
 pub mac_fits-requires-clause-in_bounds : goal.mac_fits-requires-clause-in_bounds
 mac_fits-requires-clause-in_bounds c = let long = fits-long _ c.self.invariant.fits in omega arith
-
-pub mac_fits-requires-clause-message_len_bound : goal.mac_fits-requires-clause-message_len_bound
-mac_fits-requires-clause-message_len_bound c = c.self.invariant.short

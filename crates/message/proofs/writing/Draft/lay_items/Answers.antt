@@ -17,32 +17,11 @@ split_at-requires c =
     let room = next-room _ _ _ _ c.loop-identifier.invariant turn.0 turn.1 in
     room.content
 
-pub lay_item-requires-clause-content_in_bounds : goal.lay_item-requires-clause-content_in_bounds
-lay_item-requires-clause-content_in_bounds c =
-    let turn = Zip-more c.loop-identifier.identifier-iterator c.next.new.self _ _ c.in-Some.is c.next.ensures.steps in
-    let room = next-room _ _ _ _ c.loop-identifier.invariant turn.0 turn.1 in
-    let place = room.place in
-    omega (arith, c.split_at.ensures.front_len)
-
 pub lay_item-requires-clause-content_len_bound : goal.lay_item-requires-clause-content_len_bound
 lay_item-requires-clause-content_len_bound c =
     let turn = Zip-more c.loop-identifier.identifier-iterator c.next.new.self _ _ c.in-Some.is c.next.ensures.steps in
     let room = next-room _ _ _ _ c.loop-identifier.invariant turn.0 turn.1 in
     let small = room.small in
-    omega (arith, c.split_at.ensures.front_len)
-
-pub overflow_add-at : goal.overflow_add-at
-overflow_add-at c =
-    let turn = Zip-more c.loop-identifier.identifier-iterator c.next.new.self _ _ c.in-Some.is c.next.ensures.steps in
-    let room = next-room _ _ _ _ c.loop-identifier.invariant turn.0 turn.1 in
-    let place = room.place in
-    omega arith
-
-pub overflow_add-at-in-loop-identifier : goal.overflow_add-at-in-loop-identifier
-overflow_add-at-in-loop-identifier c =
-    let turn = Zip-more c.loop-identifier.identifier-iterator c.next.new.self _ _ c.in-Some.is c.next.ensures.steps in
-    let room = next-room _ _ _ _ c.loop-identifier.invariant turn.0 turn.1 in
-    let place = room.place in
     omega (arith, c.split_at.ensures.front_len)
 
 pub loop-identifier-preserved : goal.loop-identifier-preserved
