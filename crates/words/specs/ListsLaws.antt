@@ -48,10 +48,15 @@ unfolding all_zero
 zero-all [] = refl
 zero-all (x ∷ s) = ap (λ (t : Bool). eqb x 0 && t) (zero-all s)
 
-pub within-all : (low high : ℕ) (s : List ℕ) → list_all (λ x. leb low x && leb x high) s ≡ all_within low high s
+-- a byte more is within the bounds
+pub within_more : (low high : ℕ) (s : List ℕ) (i : ℕ) (clean : Bool) → i < length s
+    → clean && all_within low high (drop i s) ≡ (clean && (leb low (get_or s i 0) && leb (get_or s i 0) high)) && all_within low high (drop (i + 1) s)
 unfolding all_within
-within-all low high [] = refl
-within-all low high (x ∷ s) = ap (λ (t : Bool). (leb low x && leb x high) && t) (within-all low high s)
+within_more low high s i clean h = rw (add-one, and_assoc, drop-cons s i 0)
+
+pub within_end : (low high : ℕ) (s : List ℕ) (i : ℕ) (clean : Bool) → length s ≤ i → clean && all_within low high (drop i s) ≡ clean
+unfolding all_within
+within_end low high s i clean h = rw (drop_of_length-le s h) (and_true clean)
 
 -- what is left of copies after some of them
 pub drop-replicate : (k n a : ℕ) → drop k (replicate n a) ≡ replicate (n - k) a

@@ -108,9 +108,14 @@ fn each_zero(s: &[u8]) -> bool
     s.iter().all(|b| *b == 0)
 }
 
-// Whether each byte is low to high.
+// Whether each byte is low to high. Every byte is read, so that sixteen are tested at once: by `all`, which ends at the first that is not, 32 took three times
+// as long.
 pub fn within(s: &[u8], low: u8, high: u8) -> bool
     ensures { result ≡ all_within low high s.now }
 {
-    s.iter().all(|b| (low..=high).contains(b))
+    let mut clean = true;
+    for b in s {
+        clean &= (low <= *b) & (*b <= high);
+    }
+    clean
 }
