@@ -18,11 +18,10 @@ fn leave(table: &mut [u8], at: usize, left: Left)
 {
     match left {
         Left::Same => {}
-        Left::Stored(row) => store_row(table, at, row),
-        Left::Voided(row) => {
-            store_row(table, at, row);
-            wipe_key(table, at);
-        }
+        Left::Stored(row) | Left::Voided(row) => store_row(table, at, row),
+    }
+    if let Left::Voided(_) = left {
+        wipe_key(table, at);
     }
 }
 
