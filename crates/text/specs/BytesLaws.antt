@@ -1,6 +1,6 @@
 -- A few bytes with zeros behind them: more bytes are put where the zeros begin.
 use Rattle.std.specs.Prelude.{◌≡◌, ℕ, ◌+◌, ◌-◌, ◌≤◌, List, ◌++◌, length, take, drop, replicate}
-use Rattle.std.proofs.Common.{arith, append-nil, drop-drop, drop_of_length-le, length-take}
+use Rattle.std.proofs.Common.{arith, append-nil, drop-drop, drop_of_length-le, length-take, length-take-le, take-append-drop}
 use Rattle.std.proofs.lemmas.Slice.{take-put_mid, drop-put_mid}
 use borrow.Rule.Slice.PartMut.{put_mid}
 use Rattle.words.specs.ListsLaws.{drop_zeros}
@@ -22,3 +22,8 @@ module _ (n len : ℕ) (padded more : List ℕ) {part : List ℕ} (size : length
       let e = part-is in
       let k : n - len - length more ≡ n - (len + length more) = omega arith in
       rw (e, drop-put_mid len (len + length more - len) padded more (len + length more) (omega arith) (omega arith) (omega arith), ← drop-drop (length more) len padded, zeros, drop_zeros (length more) (n - len), k)
+
+-- how many bytes there are, and the whole array, from the bytes alone
+pub bytes-back : (n len : ℕ) (padded : List ℕ) → len ≤ n → length padded ≡ n → drop len padded ≡ replicate (n - len) 0
+    → (length (take len padded) ≡ len) × (take len padded ++ replicate (n - len) 0 ≡ padded)
+bytes-back n len padded room size zeros = (length-take-le len padded (omega arith), rw (← zeros) (take-append-drop len padded))

@@ -5,7 +5,7 @@ use std::marker::Model;
 use words::bytes::copy;
 
 // Up to N bytes. Zeros stand behind them, so that all N can be copied, a count that the compiler knows.
-#[derive(Drop)]
+#[derive(Clone, Copy)]
 pub struct Bytes<const N: usize> {
     len: usize,
     padded: [u8; N],
@@ -13,13 +13,19 @@ pub struct Bytes<const N: usize> {
 
 // Clauses see the bytes.
 impl<const N: usize> Model for Bytes<N> {
-    ghost use Rattle.std.specs.Prelude.{◌≡◌, ◌-◌, ◌≤◌, ◌++◌, List, length, take, drop, replicate, ℕ};
+    ghost use Rattle.std.specs.Prelude.{◌≡◌, ◌-◌, ◌≤◌, ◌++◌, refl, List, length, take, drop, replicate, ℕ};
+    ghost use Rattle.text.specs.BytesLaws.{bytes-back};
 
     ghost Value = { List ℕ };
 
     ghost view = { λ b. take b.len b.padded };
 
-    ghost invariant = { λ b. (b.len ≤ N) × (drop b.len b.padded ≡ replicate (N - b.len) 0) };
+    ghost invariant = { λ b. (b.len ≤ N) × (length b.padded ≡ N) × (drop b.len b.padded ≡ replicate (N - b.len) 0) };
+
+    // The bytes give the fields back, so that the value can be copied.
+    ghost inverse = { λ xs. record { len = length xs; padded = xs ++ replicate (N - length xs) 0 } };
+
+    ghost inverse_ok = { λ b h. let back = bytes-back N b.len b.padded h.0 h.1 h.2 in rw (back.0, back.1) refl };
 }
 
 impl<const N: usize> Bytes<N> {
@@ -29,7 +35,7 @@ impl<const N: usize> Bytes<N> {
         requires zeros_behind { drop len padded ≡ replicate {A = ℕ} (N - len) 0 }
         ensures { result ≡ take len padded.entry }
     {
-        Bytes { len, padded }
+        Self { len, padded }
     }
 
     pub fn len(&self) -> usize

@@ -1,4 +1,4 @@
-use Rattle.std.proofs.Common.{◌≤◌, ◌+◌, ◌++◌, ℕ, List, length, ap, ◌∙◌, arith, length-take-le}
+use Rattle.std.proofs.Common.{rules, ◌≤◌, ◌+◌, ◌++◌, ℕ, List, length, ap, ◌∙◌, arith, length-take-le}
 use Rattle.text.specs.BytesLaws.{with-more, with-zeros}
 use Rattle.text.proofs.bytes.Bytes.with.Goals as goal
 
@@ -10,8 +10,11 @@ room g c =
     omega (arith, length-take-le c.self.inside.len c.self.inside.padded (omega arith))
 
 pub invariant_of-result : goal.invariant_of-result
-invariant_of-result g c =
-    (room g c, with-zeros g.row.N c.self.inside.len c.self.inside.padded c.args.more.now c.self.told (room g c) c.copy.ensures c.self.invariant.1)
+invariant_of-result g c = (
+  room g c,
+  search rules,
+  with-zeros g.row.N c.self.inside.len c.self.inside.padded c.args.more.now c.self.told (room g c) c.copy.ensures c.self.invariant.2,
+)
 
 pub returns : goal.returns
 returns g c =
