@@ -1,11 +1,10 @@
 // Header and body of a message, by their places (GM/T 0021-2012, Tables D.1, D.2 and D.4).
-ghost use Rattle.std.specs.Prelude.{◌≡◌, ◌+◌, ◌≤◌, true, length};
+ghost use Rattle.std.specs.Prelude.{◌≡◌, ◌+◌, ◌≤◌, true, length, option_map};
 ghost use Rattle.words.specs.Lists.{one_of};
 ghost use Rattle.message.specs.Message.{kinds, marked, is_reply, head_length, item_end, body_start, message_at, frame_fits, mac_fits};
-ghost use Rattle.message.specs.Walking.{longest, items_fill, framed_as};
+ghost use Rattle.message.specs.Walking.{longest, Whole, items_fill, framed_as};
 
 use crate::mac::mac_fits;
-use std::marker::Model;
 use words::bytes::be_at;
 
 pub(crate) const KIND: usize = 1;
@@ -49,6 +48,12 @@ pub(crate) fn is_named(kind: u32) -> bool
     ensures { result ≡ one_of kind kinds }
 {
     matches!(kind, 0x00 | 0x01 | 0x80 | 0x81)
+}
+
+pub fn is_reply(kind: u8) -> bool
+    ensures { result ≡ is_reply kind }
+{
+    matches!(kind, 0x01 | 0x81)
 }
 
 // Where the item that starts at a place ends.
@@ -101,28 +106,17 @@ fn frame_fits(message: &[u8]) -> bool
 }
 
 // The bytes of a message, whatever its MAC.
-#[derive(Drop)]
+#[derive(Clone, Copy)]
 pub struct Framed<'a> {
-    pub(crate) message: &'a [u8],
+    pub message: &'a [u8],
     // Where the body starts.
     body: usize,
-}
-
-impl<'a> Model for Framed<'a> {
-    ghost use Rattle.std.specs.Prelude.{ℕ, List};
-
-    ghost Value = { List ℕ };
-
-    ghost use Rattle.message.specs.Walking.{Whole};
-
-    ghost view = { λ framed. framed.message.now };
-
-    ghost invariant = { λ framed. Whole framed.message.now framed.body };
+    ghost whole: { Whole message.now body },
 }
 
 // The message that the bytes are.
 pub fn frame_of(message: &[u8]) -> Option<Framed<'_>>
-    ensures { result ≡ framed_as message.now }
+    ensures { option_map (λ framed. framed.message.now) result ≡ framed_as message.now }
 {
     if !frame_fits(message) {
         return None;
@@ -133,21 +127,21 @@ pub fn frame_of(message: &[u8]) -> Option<Framed<'_>>
 
 impl<'a> Framed<'a> {
     pub fn is_reply(&self) -> bool
-        ensures { result ≡ is_reply (message_at self.now).kind }
+        ensures { result ≡ is_reply (message_at self.now.message.now).kind }
     {
-        matches!(self.message[KIND], 0x01 | 0x81)
+        is_reply(self.message[KIND])
     }
 
     // Whether a marked MAC is the last four bytes of the digest.
     pub fn mac_fits(&self) -> bool
-        ensures { result ≡ mac_fits self.now }
+        ensures { result ≡ mac_fits self.now.message.now }
     {
         mac_fits(self.message)
     }
 
     pub(crate) fn body(&self) -> usize
-        ensures value { result ≡ body_start self.now }
-        ensures room { result + 5 ≤ length self.now }
+        ensures value { result ≡ body_start self.now.message.now }
+        ensures room { result + 5 ≤ length self.now.message.now }
     {
         self.body
     }

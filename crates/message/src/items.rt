@@ -62,13 +62,13 @@ impl<'a> Iterator for Items<'a> {
 
 impl<'a> Framed<'a> {
     pub fn count(&self) -> usize
-        ensures { result ≡ length (message_at self.now).items }
+        ensures { result ≡ length (message_at self.now.message.now).items }
     {
         self.message[self.body() + 4] as usize
     }
 
     pub fn items(&self) -> Items<'a>
-        ensures { result ≡ places_in self.now }
+        ensures { result ≡ places_in self.now.message.now }
     {
         Items {
             message: self.message,
@@ -79,7 +79,7 @@ impl<'a> Framed<'a> {
 
     // The content of the first item that has the identifier.
     pub fn content(&self, identifier: u32) -> Option<&'a [u8]>
-        ensures { option_copied result ≡ content_in identifier (message_at self.now).items }
+        ensures { option_copied result ≡ content_in identifier (message_at self.now.message.now).items }
     {
         let place = self.items().find(|item| item.identifier == identifier)?;
         Some(&self.message[place.start..place.end])

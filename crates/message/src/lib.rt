@@ -4,11 +4,11 @@
 mod frame;
 mod items;
 mod laying;
-mod mac;
+pub mod mac;
 mod reading;
 mod writing;
 
-pub use frame::{Framed, frame_of};
+pub use frame::{Framed, frame_of, is_reply};
 pub use items::{ItemPlace, Items};
 pub use reading::{Heading, Reading, item, read_message};
 pub use writing::write_message;

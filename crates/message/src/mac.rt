@@ -8,7 +8,7 @@ use sm3::joined::joined_digest;
 use words::bytes::same;
 
 // Whether a marked MAC is the last four bytes of the digest.
-pub(crate) fn mac_fits(message: &[u8]) -> bool
+pub fn mac_fits(message: &[u8]) -> bool
     requires in_bounds { 25 ≤ length message.now }
     requires message_len_bound { length message.now ≤ longest }
     ensures { result ≡ mac_fits message.now }

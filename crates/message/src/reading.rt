@@ -1,5 +1,6 @@
 // Reading a message, request or reply (document 02, Ask 3).
 ghost use Rattle.std.specs.Prelude.{◌≡◌};
+ghost use Rattle.std.specs.Result.{result_map_both};
 ghost use Rattle.message.specs.Message.{message_at};
 ghost use Rattle.message.specs.Reading.{read_of, heading_of, reading_of, item_of};
 ghost use Rattle.message.specs.Walking.{framed_as, sealed_as};
@@ -28,19 +29,19 @@ pub struct Reading {
 
 impl<'a> Framed<'a> {
     pub fn service(&self) -> u32
-        ensures { result ≡ (message_at self.now).service }
+        ensures { result ≡ (message_at self.now.message.now).service }
     {
         be_at(self.message, self.body(), 2) as u32
     }
 
     pub fn options(&self) -> u32
-        ensures { result ≡ (message_at self.now).options }
+        ensures { result ≡ (message_at self.now.message.now).options }
     {
         be_at(self.message, self.body() + 2, 2) as u32
     }
 
     pub fn heading(&self) -> Heading
-        ensures { result ≡ heading_of (message_at self.now) }
+        ensures { result ≡ heading_of (message_at self.now.message.now) }
     {
         Heading {
             kind: self.message[KIND] as u32,
@@ -54,7 +55,7 @@ impl<'a> Framed<'a> {
 
 // The message that the bytes are, with a MAC that fits: 9001, then 9002.
 fn framed_read(message: &[u8]) -> Result<Framed<'_>, Refusal>
-    ensures { result ≡ sealed_as (framed_as message.now) }
+    ensures { result_map_both (λ framed. framed.message.now) (λ refusal. refusal) result ≡ sealed_as (framed_as message.now) }
 {
     let framed = frame_of(message).ok_or(Refusal::BadMessage)?;
     if !framed.mac_fits() {

@@ -11,21 +11,21 @@ use words::bytes::be_eight;
 const SERIAL_BYTES: usize = 8;
 
 fn has(framed: &Framed, id: u32) -> bool
-    ensures { result ≡ has id (message_at framed.now).items }
+    ensures { result ≡ has id (message_at framed.now.message.now).items }
 {
     framed.content(id).is_some()
 }
 
 // The content of the item, empty where there is none.
 pub(crate) fn content<'a>(framed: &Framed<'a>, id: u32) -> &'a [u8]
-    ensures { result.now ≡ content_of id (message_at framed.now).items }
+    ensures { result.now ≡ content_of id (message_at framed.now.message.now).items }
 {
     framed.content(id).unwrap_or(&[])
 }
 
 // Whether the items are those of the service's call, each once: as many, and each there.
 pub(crate) fn items_fit(framed: &Framed, service: Service) -> bool
-    ensures { result ≡ only_these (items_of service) (message_at framed.now).items }
+    ensures { result ≡ only_these (items_of service) (message_at framed.now.message.now).items }
 {
     let wanted = items_of(service);
     if framed.count() != wanted.len() {
@@ -36,7 +36,7 @@ pub(crate) fn items_fit(framed: &Framed, service: Service) -> bool
 
 // The serial, where it has 8 bytes.
 pub(crate) fn serial_of(framed: &Framed) -> Option<u64>
-    ensures { result ≡ serial_in (message_at framed.now) }
+    ensures { result ≡ serial_in (message_at framed.now.message.now) }
 {
     let serial = content(framed, SERIAL);
     if serial.len() != SERIAL_BYTES {

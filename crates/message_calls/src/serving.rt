@@ -16,7 +16,7 @@ use window::Seconds;
 
 // Whether options, items and serial are those of the service's call.
 fn fits(framed: &Framed, service: Service) -> bool
-    ensures { result ≡ fits service (message_at framed.now) }
+    ensures { result ≡ fits service (message_at framed.now.message.now) }
 {
     options_fit(service, framed.options())
         & items_fit(framed, service)
@@ -25,7 +25,7 @@ fn fits(framed: &Framed, service: Service) -> bool
 
 // Whether the service has a call, and options, items or serial are not that call's.
 fn misfits(framed: &Framed) -> bool
-    ensures { result ≡ misfits (message_at framed.now) }
+    ensures { result ≡ misfits (message_at framed.now.message.now) }
 {
     let Some(service) = service_of(framed.service()) else {
         return false;
@@ -35,9 +35,9 @@ fn misfits(framed: &Framed) -> bool
 
 // The call of a service. Each has arguments of its own, so that no table of functions could have them.
 fn serve_call(table: &mut [u8], framed: &Framed, service: Service, clock: Seconds) -> Answer
-    requires service_value { service_of (message_at framed.now).service ≡ Some service }
-    requires message_value { misfits (message_at framed.now) ≡ false }
-    ensures { result_of result table.new ≡ read_after password_at (call_for (Some service) (message_at framed.now) clock.0) table.old }
+    requires service_value { service_of (message_at framed.now.message.now).service ≡ Some service }
+    requires message_value { misfits (message_at framed.now.message.now) ≡ false }
+    ensures { result_of result table.new ≡ read_after password_at (call_for (Some service) (message_at framed.now.message.now) clock.0) table.old }
 {
     let serial = serial_of(framed).unwrap();
     match service {

@@ -3,4 +3,4 @@ use Rattle.message_calls.proofs.FindingLaws.{serial-other, serial-read}
 use Rattle.message_calls.proofs.items.serial_of.Goals as goal
 
 pub returns : goal.returns
-returns c = serial-read (message_at c.args.framed.now) c.content-serial.ensures c.be_eight.ensures c.if-serial-ne-SERIAL_BYTES.false
+returns c = serial-read (message_at c.args.framed.now.message.now) c.content-serial.ensures c.be_eight.ensures c.if-serial-ne-SERIAL_BYTES.false

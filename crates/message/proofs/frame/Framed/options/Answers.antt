@@ -3,4 +3,4 @@ use Rattle.message.proofs.frame.Framed.options.Goals as goal
 
 pub returns : goal.returns
 unfolding message_at
-returns c = rw (c.be_at.ensures.value, c.body.ensures.value, ← c.self.view_is)
+returns c = rw (c.be_at.ensures.value, c.body.ensures.value)
