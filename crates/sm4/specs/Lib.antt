@@ -6,5 +6,6 @@ pub mod Sm4Laws
 pub mod Schedule
 pub mod ScheduleLaws
 pub mod EncryptLaws
+pub mod Sides
 pub mod SidesLaws
 pub mod Sm4Examples
