@@ -1,6 +1,6 @@
 -- What the C functions that read and write messages give and leave (document 02, Ask 3).
 use Rattle.std.specs.Prelude.{ℕ, ◌-◌, cond, List, [], ◌∷◌, ◌++◌, leb, length, drop, Option, Some, None, Result, Ok, Err}
-use Rattle.words.specs.Codes.{done, bad_argument}
+use Rattle.words.specs.Codes.{done, bad_argument, code_of}
 use Rattle.words.specs.Output.{Left}
 use Rattle.token.specs.Codes.{number_of}
 use Rattle.message.specs.declared.reading.Heading.{Heading}
@@ -55,12 +55,12 @@ abbrev pub wrote_left : ℕ → List ℕ → List ℕ → WroteLeft
 wrote_left code out written = record { code = code; out = out; written = written }
 
 -- the length goes to the first element where a message was written
-abbrev pub length_left : Written → List ℕ → List ℕ → WroteLeft
-length_left (Ok n) out written = wrote_left done out (n ∷ drop 1 written)
-length_left (Err refused) out written = wrote_left bad_argument out written
+abbrev pub length_left : Written → List ℕ → List ℕ
+length_left (Ok n) written = n ∷ drop 1 written
+length_left (Err refused) written = written
 
 abbrev pub lent_left : WriteLeft → List ℕ → WroteLeft
-lent_left w written = length_left w.written w.out written
+lent_left w written = wrote_left (code_of w.written) w.out (length_left w.written written)
 
 -- no place for the length is a bad argument
 unfoldable pub write_left : Heading → List ℕ → List ℕ → List ℕ → List ℕ → List ℕ → WroteLeft

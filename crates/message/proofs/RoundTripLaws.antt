@@ -77,6 +77,6 @@ write_refuses m out =
     by-test (writable m)
     (λ t. by-test (leb (length (message_bytes m)) (length out))
     (λ room. rw (written-whole m out t (leb-true (length (message_bytes m)) (length out) room))
-    (λ e. impossible (cc), λ u. absurd (nothing_against m out t room u)))
+    (λ e. absurd (omega arith), λ u. absurd (nothing_against m out t room u)))
     (λ short. let l = leb-false (length (message_bytes m)) (length out) short in rw (written-short m out t l) (λ e. Unwritable.too_short l, λ u. refl)))
     (λ f. rw (written_not m out f) (λ e. unwritable m out f, λ u. refl))

@@ -6,6 +6,7 @@ use Rattle.words.specs.Bytes.{be_at, be_bytes}
 use Rattle.words.specs.Words.{◌⋘◌}
 use Rattle.words.specs.Output.{stored}
 use Rattle.sm3.specs.Sm3.{sm3_of, padded, zeros_after, words_at, next_word, expand, round, round_with, rounds, ff, gg, compressed, iterated, digest}
+use Rattle.words.specs.Codes.{code_of}
 use Rattle.token.specs.declared.answers.Refusal.{Refusal}
 use Rattle.message.specs.declared.items.ItemPlace.{ItemPlace}
 use Rattle.message.specs.Message.{Item, Message, item_bytes, items_bytes, body_bytes, head_bytes, mac_of, items_at, items_end, all_plain, lengths_add_up, attributes_plain, message_at, frame_fits, frame_of, mac_fits}
@@ -102,17 +103,25 @@ pub bytes-table-holds : (bytes_for (reply_with []) ≡ plain_reply) × (bytes_fo
 unfolding bytes_for
 bytes-table-holds = (refl, refl)
 
+-- the code that C gets, and the length
+pub record Outcome : Type 0 where
+  pub code : ℕ
+  pub written : Written
+
+abbrev pub outcome_of : Written → Outcome
+outcome_of written = record { code = code_of written; written = written }
+
 pub record Writing : Type 0 where
   pub message : Message
   pub room : ℕ
-  pub expected : Written
+  pub expected : Outcome
 
 -- with so much room it is written, and has so many bytes
 abbrev pub done : Message → ℕ → ℕ → Writing
-done m room n = record { message = m; room = room; expected = Ok n }
+done m room n = record { message = m; room = room; expected = record { code = 0x0000; written = Ok n } }
 
 abbrev pub refused : Message → ℕ → Writing
-refused m room = record { message = m; room = room; expected = not_written }
+refused m room = record { message = m; room = room; expected = record { code = 0x9005; written = not_written } }
 
 abbrev pub writings : List Writing
 writings =
@@ -152,7 +161,7 @@ writings =
     ∷ refused (reply_with (alike 252 0 255 ++ (alike 1 252 127 ++ alike 1 253 128))) 70000
     ∷ []
 
-pub write_table-holds : map (λ (w : Writing). written_into w.room w.message) writings ≡ map (λ (w : Writing). w.expected) writings
+pub write_table-holds : map (λ (w : Writing). outcome_of (written_into w.room w.message)) writings ≡ map (λ (w : Writing). w.expected) writings
 unfolding written_into
 write_table-holds = refl
 

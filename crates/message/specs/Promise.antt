@@ -5,10 +5,11 @@ use Rattle.words.specs.Lists.{one_of}
 use Rattle.words.specs.Exactly.{Exactly}
 use Rattle.words.specs.Bytes.{AreBytes}
 use Rattle.token.specs.declared.answers.Refusal.{Refusal}
+use Rattle.words.specs.Codes.{code_of}
 use Rattle.message.specs.declared.items.ItemPlace.{ItemPlace}
 use Rattle.message.specs.Message.{Item, Message, kinds, marked, body_bytes, mac_of, bytes_with, type_named, version_named, lengths_add_up, attributes_plain, frame_of, mac_fits}
 use Rattle.message.specs.Reading.{read_of, item_of}
-use Rattle.message.specs.Writing.{message_bytes, kind_named, rising, holds, writable, write_answer, not_written, items_lent}
+use Rattle.message.specs.Writing.{message_bytes, kind_named, rising, holds, writable, write_answer, items_lent}
 
 -- ---- the bytes that are a message
 
@@ -88,7 +89,7 @@ pub data Unwritable (m : Message) (out : List ℕ) : Type 0 where
 
 -- these and nothing else
 abbrev pub WriteRefuses : Type 0
-WriteRefuses = (m : Message) (out : List ℕ) → Exactly ((write_answer m out).written ≡ not_written) (Unwritable m out)
+WriteRefuses = (m : Message) (out : List ℕ) → Exactly (code_of (write_answer m out).written ≡ 0x9005) (Unwritable m out)
 
 -- ---- how items are lent
 

@@ -1,7 +1,8 @@
 -- SM3's padding at every length, and the hash at its greatest (document 01, Part 1: 0 to 2^32 - 1 bytes), stated over the length: no message of that
 -- length is computed.
-use Rattle.std.specs.Prelude.{◌≡◌, ℕ, Ok, Err, ◌+◌, ◌%◌, true, ◌&&◌, List, [], ◌∷◌, ◌++◌, length, replicate, ◌==◌, nat_lt, refl}
+use Rattle.std.specs.Prelude.{◌≡◌, ℕ, Ok, ◌+◌, ◌%◌, true, ◌&&◌, List, [], ◌∷◌, ◌++◌, length, replicate, ◌==◌, nat_lt, refl}
 use Rattle.words.specs.Bytes.{be_bytes}
+use Rattle.words.specs.Codes.{code_of}
 use Rattle.words.specs.Entries.{every}
 use Rattle.sm3.specs.Sm3.{zeros_after, padded, sm3_of, sm3_answer}
 
@@ -21,6 +22,6 @@ unfolding sm3_answer
 longest-taken m e = rw e refl
 
 -- and 2^32 bytes are refused
-pub longer-refused : (m : List ℕ) → length m ≡ 0x100000000 → sm3_answer m ≡ Err (record {})
+pub longer-refused : (m : List ℕ) → length m ≡ 0x100000000 → code_of (sm3_answer m) ≡ 0x9005
 unfolding sm3_answer
 longer-refused m e = rw e refl

@@ -1,6 +1,6 @@
 -- What a function that stores its result in a lent output leaves there.
 use Rattle.std.specs.Prelude.{ℕ, Result, Ok, Err, ◌&&◌, cond, List, ◌++◌, eqb, leb, length, drop}
-use Rattle.words.specs.Codes.{done, bad_argument}
+use Rattle.words.specs.Codes.{done, bad_argument, code_of}
 use Rattle.words.specs.declared.codes.BadArgument.{BadArgument}
 
 -- the code, and the output after the call
@@ -18,4 +18,4 @@ stored code result out =
 -- the same of a function that gives its result or refuses
 unfoldable pub answer_left : Result (List ℕ) BadArgument → List ℕ → Left
 answer_left (Ok result) out = stored done result out
-answer_left (Err refusal) out = record { code = bad_argument; out = out }
+answer_left (Err refusal) out = record { code = code_of {A = List ℕ} (Err refusal); out = out }
