@@ -1,5 +1,5 @@
 -- What a turn over a piece of the input does, and what all turns together do.
-use Rattle.std.specs.Prelude.{ℕ, ◌≡◌, Bool, true, List, [], ◌++◌, Option, IfSome}
+use Rattle.std.specs.Prelude.{ℕ, ◌≡◌, ◌≤◌, Bool, true, List, [], ◌++◌, length, take, Option, IfSome}
 use Rattle.std.specs.Io.KnownBytes.{Appends, Consumes}
 use Rattle.lines.specs.Lines.{lines_of, cut, kept}
 use Rattle.window.specs.PasswordAt.{PasswordRule}
@@ -11,10 +11,18 @@ pub record Advances (passwords : PasswordRule) (line : Option (List ℕ)) (piece
   pub pending : (p : List ℕ) → line ≡ kept longest p → line' ≡ kept longest (cut p piece).pending
   pub staged : (p : List ℕ) → line ≡ kept longest p → after ≡ (served_all passwords (cut p piece).whole stage).stage
 
--- some bytes of the input were served
-pub record AdvancesSome (passwords : PasswordRule) (line : Option (List ℕ)) (line' : Option (List ℕ)) (stage after : Stage) : Type 0 where
-  pub bytes : List ℕ
-  pub advances : Advances passwords line bytes line' stage after
+-- the first bytes of a piece were served, whether or not all that they printed is written out
+pub record AdvancesSome (passwords : PasswordRule) (line : Option (List ℕ)) (piece : List ℕ) (line' : Option (List ℕ)) (stage after : Stage) : Type 0 where
+  pub used : ℕ
+  pub part : used ≤ length piece
+  pub advances : Advances passwords line (take used piece) line' stage after
+
+-- a piece was read into a buffer, none where the read failed, and its first bytes were served; `known` and `rest` are the bytes that the reader had left before and after
+pub record ReadsSome (passwords : PasswordRule) (known rest : Option (List ℕ)) (buffer : List ℕ) (line line' : Option (List ℕ)) (stage after : Stage) : Type 0 where
+  pub read : ℕ
+  pub within : read ≤ length buffer
+  pub taken : Consumes known rest (take read buffer)
+  pub served : AdvancesSome passwords line (take read buffer) line' stage after
 
 -- an input was served up to the last line feed in it: the buffers hold the line that none has ended and the table after the lines before it
 pub record Leaves (passwords : PasswordRule) (stage : Stage) (line : Option (List ℕ)) (after : Stage) : Type 0 where

@@ -24,14 +24,17 @@ use std::{fs, io, str};
 const NAME: usize = PATH_MAX + 7;
 
 // Reads the table in a file.
-fn load<R: Files>(rt: &R, path: &str, table: &mut Table) -> io::Result<()> {
+fn load<R: Files>(rt: &R, path: &str, table: &mut Table) -> io::Result<()>
+    ensures { OnOk result (table.new.stage.fresh ≡ false) }
+{
     let mut file = fs::open(rt, path)?;
     read_table(&mut file, table)
 }
 
 // Reads the table: it has no rows if the file has no right length.
 fn read_table<F: Read>(file: &mut F, table: &mut Table) -> io::Result<()>
-    ensures { OnOk result (IfSome (F.remaining file.old) (λ xs. stage_of table.new ≡ file_stage xs)) }
+    ensures stands { OnOk result (table.new.stage.fresh ≡ false) }
+    ensures value { OnOk result (IfSome (F.remaining file.old) (λ xs. stage_of table.new ≡ file_stage xs)) }
 {
     let len = read_full(file, &mut table.bytes)?;
     let mut more = [0u8; 1];
@@ -200,7 +203,8 @@ fn serve_file<R: Files + RandomSource, I: Read>(
     table: &mut Table,
     answers: &mut R::File,
 ) -> io::Result<()>
-    requires { length path.now ≤ 4096 }
+    requires path_len_bound { length path.now ≤ 4096 }
+    requires stands { table.old.stage.fresh ≡ false }
     ensures serves_input { ServesInput password_at (is_ok result) (stage_of table.old) (stage_of table.new) }
     ensures serves_all { OnOk result (ServesAll password_at (I.remaining input.old) (R.File.contents answers.old) (R.File.contents answers.new) (stage_of table.old) (stage_of table.new)) }
 {

@@ -3,7 +3,7 @@ ghost use Rattle.std.specs.Prelude.{◌≡◌, [], take, Some, is_ok, IfOk, IfSo
 ghost use Rattle.std.specs.Io.KnownBytes.{Appends, Consumes, IsAtEnd};
 ghost use Rattle.window.specs.PasswordAt.{password_at};
 ghost use Rattle.script.specs.Script.{start, stage_of, output_of};
-ghost use Rattle.desk_lines.specs.Input.{Advances, AdvancesSome, Leaves, ServesInput, Writes, Passes, ServesAll};
+ghost use Rattle.desk_lines.specs.Input.{Advances, AdvancesSome, ReadsSome, Leaves, ServesInput, Writes, Passes, ServesAll};
 
 use script::sizes::OUTPUT;
 use script::state::{Pending, Stage, Table};
@@ -21,7 +21,7 @@ fn serve_piece<W: Write>(
     piece: &[u8],
     out: &mut [u8; OUTPUT],
 ) -> io::Result<()>
-    ensures some { AdvancesSome password_at pending.old pending.new (stage_of table.old) (stage_of table.new) }
+    ensures some { AdvancesSome password_at pending.old piece.now pending.new (stage_of table.old) (stage_of table.new) }
     ensures advances { OnOk result (Advances password_at pending.old piece.now pending.new (stage_of table.old) (stage_of table.new)) }
     ensures writes { OnOk result (Writes password_at pending.old piece.now (stage_of table.old) (W.contents to.old) (W.contents to.new)) }
 {
@@ -44,7 +44,7 @@ fn serve_next<R: Read, W: Write>(
     piece: &mut [u8; PIECE],
     out: &mut [u8; OUTPUT],
 ) -> io::Result<usize>
-    ensures some { AdvancesSome password_at pending.old pending.new (stage_of table.old) (stage_of table.new) }
+    ensures some { ReadsSome password_at (R.remaining input.old) (R.remaining input.new) piece.new pending.old pending.new (stage_of table.old) (stage_of table.new) }
     ensures advances { IfOk result (λ read. Advances password_at pending.old (take read piece.new) pending.new (stage_of table.old) (stage_of table.new)) }
     ensures taken { IfOk result (λ read. Consumes (R.remaining input.old) (R.remaining input.new) (take read piece.new)) }
     ensures end { IfOk result (λ read. read ≡ 0 → IsAtEnd (R.remaining input.new)) }

@@ -1,4 +1,4 @@
-use Rattle.std.proofs.Common.{◌+◌, take}
+use Rattle.std.proofs.Common.{◌+◌}
 use Rattle.window.specs.PasswordAt.{password_at}
 use Rattle.script.specs.Script.{stage_of}
 use Rattle.desk_lines.specs.InputLaws.{serving_begin, serving_more}
@@ -25,7 +25,10 @@ loop-at-preserved g c =
 pub returns-in_err-write_all-clause-some : goal.returns-in_err-write_all-clause-some
 returns-in_err-write_all-clause-some g c =
     let fed = c.fill-fed.ensures in
-    record {
-      bytes = take (c.loop-at.at + c.fill-fed.result.used) c.args.piece.now;
-      advances = (serving_more password_at c.loop-at.invariant.serving fed.used_in_bounds fed.follows).advances;
-    }
+    let next = serving_more password_at c.loop-at.invariant.serving fed.used_in_bounds fed.follows in
+    record { used = c.loop-at.at + c.fill-fed.result.used; part = next.within; advances = next.advances }
+
+pub returns-clause-some : goal.returns-clause-some
+returns-clause-some g c =
+    let serving = c.loop-at.invariant.serving in
+    record { used = c.loop-at.at; part = serving.within; advances = serving.advances }

@@ -14,10 +14,10 @@ loop-init g c =
     }
 
 pub returns-in_err-read-clause-leaves : goal.returns-in_err-read-clause-leaves
-returns-in_err-read-clause-leaves g c = leaves_more password_at c.loop.invariant.leaves c.serve_next.ensures.some.advances
+returns-in_err-read-clause-leaves g c = leaves_more password_at c.loop.invariant.leaves c.serve_next.ensures.some.served.advances
 
 pub returns-then-read-eq0-clause-leaves : goal.returns-then-read-eq0-clause-leaves
-returns-then-read-eq0-clause-leaves g c = leaves_more password_at c.loop.invariant.leaves c.serve_next.ensures.some.advances
+returns-then-read-eq0-clause-leaves g c = leaves_more password_at c.loop.invariant.leaves c.serve_next.ensures.some.served.advances
 
 pub returns-then-read-eq0-clause-passes : goal.returns-then-read-eq0-clause-passes
 returns-then-read-eq0-clause-passes g c =
@@ -28,6 +28,6 @@ pub loop-preserved : goal.loop-preserved
 loop-preserved g c =
     let turn = c.in_ok-read.ensures in
     record {
-      leaves = leaves_more password_at c.loop.invariant.leaves c.serve_next.ensures.some.advances;
+      leaves = leaves_more password_at c.loop.invariant.leaves c.serve_next.ensures.some.served.advances;
       passes = passes_more password_at c.loop.invariant.passes turn.advances turn.writes turn.taken;
     }
