@@ -54,6 +54,7 @@ pub(crate) fn sweep(
     ensures { result ≡ swept_by track clock.0 size goal (cut_at track.scheme key.now challenge.now) }
 {
     let ahead = ahead_by(goal);
+    let pair = goal.before.is_some();
     let range = candidates(track, clock, size);
     let first = range.first.0;
     let end = range.end.0;
@@ -79,7 +80,7 @@ pub(crate) fn sweep(
         let last = (i + ahead) as usize;
         let hit = hits(goal, cuts[here], cuts[last]);
         met = met_by(met, hit, next <= first + i, first + i + 1 == next, i);
-        if (0 < met.fresh) && goal.before.is_some() {
+        if (0 < met.fresh) && pair {
             break;
         }
     }

@@ -7,7 +7,7 @@ use Rattle.window.specs.declared.met.Met.{Met}
 use Rattle.words.specs.BoolLaws.{and_false}
 use borrow.Rule.Slice.PartMut.{same_len_mid}
 use Rattle.window.proofs.sweep.sweep.Goals as goal
-use Rattle.window.proofs.sweep.sweep.Goals.{else-loop-i-test, then-loop-i-test+then-met-gt0+then-is_some, then-made-i, else-made-i, else-met-gt0-via-then-met-gt0+else-is_some, else-met-gt0-via-else-met-gt0}
+use Rattle.window.proofs.sweep.sweep.Goals.{else-loop-i-test, then-loop-i-test+then-met-gt0+then-pair, then-made-i, else-made-i, else-met-gt0-via-then-met-gt0+else-pair, else-met-gt0-via-else-met-gt0}
 
 pub slice_bounds-cuts-end : goal.slice_bounds-cuts-end
 slice_bounds-cuts-end c =
@@ -47,7 +47,7 @@ loop-i-preserved c =
     record {
       sweeping = looked-at inv still reached c.hits-hit.ensures c.met_by-met.ensures;
       unmet = elim c.else-met-gt0.branch [
-        | else-met-gt0-via-then-met-gt0+else-is_some w ↦ rw (sym w.is_some.ensures ∙ w.if-is_some.false)
+        | else-met-gt0-via-then-met-gt0+else-pair w ↦ rw (sym c.is_some-pair.ensures ∙ w.if-pair.false)
         | else-met-gt0-via-else-met-gt0 w ↦ rw (le-ltb 0 c.met_by-met.result.fresh w.if-met-gt0.false) (and_false _)
       ];
       ready = c.loop-i.invariant.ready;
@@ -58,7 +58,7 @@ met_outcome-requires-clause-at_bound c =
     let stand = c.loop-i.invariant.sweeping.stand in
     elim c.loop-i-test.branch [
       | else-loop-i-test w ↦ omega (arith, ap (λ (m : Met). m.at) w.met-is, stand.near, stand.looked, stand.few)
-      | then-loop-i-test+then-met-gt0+then-is_some w ↦ omega (arith, met-below c.loop-i.met c.loop-i-test.met _ _ _ c.loop-i.i (w.met-is ∙ w.met_by-met.ensures) stand.near, stand.looked, stand.few)
+      | then-loop-i-test+then-met-gt0+then-pair w ↦ omega (arith, met-below c.loop-i.met c.loop-i-test.met _ _ _ c.loop-i.i (w.met-is ∙ w.met_by-met.ensures) stand.near, stand.looked, stand.few)
     ]
 
 pub returns : goal.returns
@@ -69,7 +69,7 @@ returns c =
           let ended = all-placed c.candidates-range.result.first.0 c.candidates-range.result.end.0 c.ahead_by-ahead.result c.loop-i.i _ (omega (arith, w.loop-i-test.false, c.saturating_sub-i-end.ensures, c.saturating_sub-all.ensures)) in
           rw (w.made-is, w.met-is)
           (swept-made c.args.track c.args.clock.0 c.args.size c.args.goal c.args.key.now c.args.challenge.now c.candidates-range.ensures.first_value c.candidates-range.ensures.end_value c.ahead_by-ahead.ensures.value c.maker_of-maker.ensures inv ended (rw w.met-is at c.met_outcome.ensures))
-      | then-loop-i-test+then-met-gt0+then-is_some w ↦
+      | then-loop-i-test+then-met-gt0+then-pair w ↦
           let still = goes-on inv.stand (omega arith) c.loop-i.invariant.unmet in
           let reached : Reached inv still w.if-made-i.cuts w.if-made-i.made = elim w.if-made-i.branch [
             | then-made-i v ↦ more-made inv still _ v.if-made-i.true (v.more_sure-more.ensures.value, (v.more_sure-more.ensures.lower_bound, v.more_sure-more.ensures.upper_bound)) v.put_cuts.ensures v.cuts-is
@@ -77,7 +77,7 @@ returns c =
             | else-made-i v ↦ enough-made inv still v.if-made-i.false v.cuts-is v.made-is
           ] in
           let looked = looked-at inv still reached w.hits-hit.ensures w.met_by-met.ensures in
-          let ended = pair-met c.args.goal w.met_by-met.result _ (sym w.is_some.ensures ∙ w.if-is_some.true) w.if-met-gt0.true in
+          let ended = pair-met c.args.goal w.met_by-met.result _ (sym c.is_some-pair.ensures ∙ w.if-pair.true) w.if-met-gt0.true in
           rw (w.made-is, w.met-is)
           (swept-made c.args.track c.args.clock.0 c.args.size c.args.goal c.args.key.now c.args.challenge.now c.candidates-range.ensures.first_value c.candidates-range.ensures.end_value c.ahead_by-ahead.ensures.value c.maker_of-maker.ensures looked ended (rw w.met-is at c.met_outcome.ensures))
     ]
