@@ -1,7 +1,7 @@
 # Counts the wrong programs of each public contract of a crate: the files are its sources and behind them its edits. Prints 'COUNT FILE:LINE NAME'
-# for each `pub fn` or `pub extern "C" fn` without a `requires`; of the files in `inner` only for those that lib.rt hands on by `pub use`.
-# An edit counts for a function if a text that it replaces stands in the function's body, or in a function or a constant of the crate that the
-# body names, directly or through others. Comments and contracts are no part of a body. The layout is that of rt fmt.
+# for each `pub fn` or `pub extern "C" fn` without a `requires`, a method too; of the files and functions in `inner` only for those that lib.rt hands on by `pub use`.
+# An edit counts for a function if a text that it replaces stands in the function's body, or in a function, a constant or a static of the crate that the
+# body names, directly or through others; a call of a method names all of its name, but for `len`, which slices have too. Comments and contracts are no part of a body. The layout is that of rt fmt.
 FILENAME ~ /\.edit$/ {
     if (/^file: /) edited = substr($0, 7)
     if (/^old: /) { replaced[++edits] = substr($0, 6); place[edits] = edited; edit[edits] = FILENAME }
@@ -27,19 +27,33 @@ is_use && /; *$/ {
     take("", paths)
 }
 
-/^(pub(\(crate\))? )?(extern "C" )?(fn|const) / {
+# The functions of an `impl` stand a step further in.
+/^impl[ <].*\{$/ {
+    type = $0
+    sub(/.* for /, "", type)
+    sub(/^impl(<[^>]*>)? */, "", type)
+    sub(/[^A-Za-z0-9_].*/, "", type)
+    in_impl = 1
+}
+/^\}/ { in_impl = 0 }
+
+(in_impl && /^    (pub(\(crate\))? )?fn /) || /^(pub(\(crate\))? )?(extern "C" )?(fn|const|static) / {
     name = $0
-    sub(/^.*(fn|const) /, "", name)
+    sub(/^ *(pub(\(crate\))? )?(extern "C" )?(fn|const|static) /, "", name)
     sub(/[^A-Za-z0-9_].*/, "", name)
+    if (in_impl) { methods[name] = methods[name] " " module "::" type "::" name; name = type "::" name }
     here = module "::" name
     item[here] = 1
-    is_body = /\{$/ || /const /
-    if (/^pub (extern "C" )?fn /) { public[here] = FILENAME ":" FNR; is_inner[here] = index(" " inner " ", " " FILENAME " ") }
+    is_body = /\{$/ || /^(pub(\(crate\))? )?(const|static) /
+    if (/^ *pub (extern "C" )?fn /) {
+        public[here] = FILENAME ":" FNR
+        is_inner[here] = index(" " inner " ", " " FILENAME " ") || index(" " inner " ", " " FILENAME ":" name " ")
+    }
 }
 /^ +requires / && !is_body { delete public[here] }
-/^(\) .*)?\{$/ { is_body = 1 }
+in_impl ? /^    (\) .*)?\{$/ : /^(\) .*)?\{$/ { is_body = 1 }
 here != "" && is_body { file[++lines] = FILENAME; owner[lines] = here; text[lines] = $0 }
-is_body && (/^\}/ || /^[^ ].*;$/) { here = ""; is_body = 0 }
+is_body && (in_impl ? /^    \}/ : /^\}/ || /^[^ ].*;$/) { here = ""; is_body = 0 }
 
 # Notes the names that a list of paths takes, each with what stands before the list.
 function take(before, list,   i, c, depth, part, name) {
@@ -78,15 +92,17 @@ function meant(module, path,   part, n, turns) {
 }
 
 # Notes what a line of an item names: what it calls, and its constants.
-function note(here, line,   module, path, other) {
+function note(here, line,   module, path, before, other) {
     module = here
     sub(/::.*/, "", module)
     while (match(line, /[A-Za-z_][A-Za-z0-9_]*(::[A-Za-z_][A-Za-z0-9_]*)*/)) {
         path = substr(line, RSTART, RLENGTH)
+        before = RSTART > 1 ? substr(line, RSTART - 1, 1) : ""
         line = substr(line, RSTART + RLENGTH)
         if (line !~ /^\(/ && path !~ /^(.*::)?[A-Z][A-Z0-9_]*$/) continue
         other = meant(module, path)
-        if (other != "") named[here] = named[here] " " other
+        if ((before == "." && path != "len") || path ~ /::/) { sub(/.*::/, "", path); other = other " " methods[path] }
+        named[here] = named[here] " " other
     }
 }
 

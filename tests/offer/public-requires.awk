@@ -1,8 +1,15 @@
-# Prints FILE:LINE for each 'requires' on a public function. A signature runs from 'pub fn' or
+# Prints FILE:LINE for each 'requires' on a public function that is not in `inner`, as FILE:NAME. A signature runs from 'pub fn' or
 # 'pub extern "C" fn' to the brace that opens its body; each contract clause before has braces of its own.
 FNR == 1 { open = 0 }
 { sub(/\/\/.*/, "") }
-/^[ \t]*pub (extern "C" )?fn / { open = 1; clause = 0; depth = 0 }
+/^[ \t]*pub (extern "C" )?fn / {
+    name = $0
+    sub(/^[ \t]*pub (extern "C" )?fn /, "", name)
+    sub(/[^A-Za-z0-9_].*/, "", name)
+    open = !index(" " inner " ", " " FILENAME ":" name " ")
+    clause = 0
+    depth = 0
+}
 open {
     gsub(/[{}]/, " & ")
     words = split($0, word, /[ \t]+/)
