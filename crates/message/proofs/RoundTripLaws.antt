@@ -2,7 +2,7 @@
 use Rattle.std.specs.Prelude.{ℕ, ◌≡◌, refl, true, false, List, ◌++◌, leb, length, take, drop, Ok}
 use Rattle.std.proofs.Common.{sym, ap, ◌∙◌, arith, leb-true, leb-false, take_at, drop_at}
 use Rattle.words.specs.ListsLaws.{same_refl}
-use Rattle.words.specs.BoolLaws.{by-test, clash, impossible}
+use Rattle.words.specs.BoolLaws.{by-test, clash}
 use Rattle.message.specs.Message.{Message, marked, head_bytes, body_bytes, mac_of, mac_fits}
 use Rattle.message.specs.Reading.{MessageRead, read_of}
 use Rattle.message.specs.Writing.{message_bytes, kind_named, rising, writable}

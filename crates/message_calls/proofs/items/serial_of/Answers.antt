@@ -1,5 +1,5 @@
 use Rattle.message.specs.Message.{message_at}
-use Rattle.message_calls.proofs.FindingLaws.{serial-other, serial-read}
+use Rattle.message_calls.proofs.FindingLaws.{serial-read}
 use Rattle.message_calls.proofs.items.serial_of.Goals as goal
 
 pub returns : goal.returns
